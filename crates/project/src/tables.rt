@@ -1,0 +1,59 @@
+// The records of a project, which stand in tables that the caller lends, and the head that goes with them.
+
+// The limits of a project.
+pub const MOST_ACTIVITIES: usize = 62;
+pub const MOST_RESOURCES: usize = 4;
+pub const MOST_CAPACITY: u8 = 50;
+pub const MOST_DURATION: u8 = 60;
+pub const MOST_PAIRS: usize = 256;
+pub const MOST_OR_PREDECESSORS: usize = 8;
+
+// An activity's number, counted from 1.
+pub type ActivityNumber = u8;
+
+// How long an activity takes, and how much of each resource it needs while it is at work.
+#[derive(Clone, Copy, Debug, PartialEq, Eq)]
+pub struct Activity {
+    pub duration: u8,
+    pub demands: [u8; MOST_RESOURCES],
+}
+
+impl Activity {
+    // The zeroed record.
+    pub const BLANK: Activity = Activity { duration: 0, demands: [0; MOST_RESOURCES] };
+}
+
+// What a pair asks of its two activities.
+#[derive(Clone, Copy, Debug, PartialEq, Eq)]
+pub enum Kind {
+    // The kind of a zeroed record, which no project has.
+    Blank,
+    // The first finishes before the second starts.
+    And,
+    // One of the firsts of all such pairs finishes before the second starts.
+    Or,
+    // The two are never at work in the same period.
+    Bi,
+}
+
+#[derive(Clone, Copy, Debug, PartialEq, Eq)]
+pub struct Pair {
+    pub kind: Kind,
+    pub first: ActivityNumber,
+    pub second: ActivityNumber,
+}
+
+impl Pair {
+    // The zeroed record.
+    pub const BLANK: Pair = Pair { kind: Kind::Blank, first: 0, second: 0 };
+}
+
+// How many activities, resources and pairs a project has, and the capacities of its resources. The capacities past the
+// last resource are 0.
+#[derive(Clone, Copy, Debug, PartialEq, Eq)]
+pub struct Head {
+    pub activities: usize,
+    pub resources: usize,
+    pub capacities: [u8; MOST_RESOURCES],
+    pub pairs: usize,
+}

@@ -1,0 +1,5 @@
+pub mod Accepted
+pub mod Cuts
+pub mod Lines
+pub mod Reading
+pub mod Written

@@ -1,0 +1,3 @@
+// Books: the text form of a project, read into lent tables and written from them.
+mod lines;
+mod words;

@@ -16,9 +16,9 @@ use Rattle.project.specs.declared.tables.Kind.{Kind}
 use Rattle.project.specs.declared.tables.Kind.the-variants.{Blank, Or}
 use Rattle.book.specs.declared.lines.LineKind.{LineKind}
 use Rattle.book.specs.declared.lines.LineKind.the-variants.{Capacities, Job, Pairing, Trailer}
-use Rattle.book.specs.Lines.{lf, Content, spelled, line, most-digits, fewest, most}
+use Rattle.book.specs.Lines.{lf, most-bytes, Content, spelled, line, most-digits, fewest, most}
 use Rattle.book.specs.Written.{trailer-line, written}
-use Rattle.book.specs.Reading.{Sizes, most-bytes, reading}
+use Rattle.book.specs.Reading.{Sizes, reading}
 
 -- empty, or ending in LF
 abbrev pub Ended : List ℕ → Type 0

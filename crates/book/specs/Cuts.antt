@@ -8,7 +8,8 @@ use lib.ListN.{length, take, drop}
 use Rattle.std.specs.declared.option.Option.{Option}
 use Rattle.std.specs.declared.option.Option.the-variants.{Some, None}
 use Rattle.std.specs.shelf.Lists.{leading}
-use Rattle.book.specs.Lines.{space, words}
+use Rattle.book.specs.Lines.{most-bytes, space, words, numeral, kind-word}
+use Rattle.book.specs.declared.lines.LineKind.{LineKind}
 use Rattle.book.specs.declared.words.Word.{Word}
 use Rattle.book.specs.declared.words.Word.the-variants.{Letter, Number}
 use Rattle.book.specs.declared.words.Words.{Words}
@@ -29,24 +30,37 @@ abbrev pub place-of : Word → ℕ
 place-of (Letter t p) = p
 place-of (Number t p) = p
 
+abbrev pub number-of : Word → Option ℕ
+number-of (Letter t p) = None
+number-of (Number t p) = numeral (t .now)
+
+abbrev pub kind-told : Word → Option LineKind
+kind-told (Letter t p) = kind-word (t .now)
+kind-told (Number t p) = None
+
 -- the words that are left
 abbrev pub left : Words → List (List ℕ)
 left ws = after (drop (ws .at) (ws .line .now))
 
+-- the line lies in a book, and what is left of it in the line
+pub record InBook (ws : Words) : Type 0 where
+  pub within : ws .at ≤ length (ws .line .now)
+  pub short : ws .place + length (ws .line .now) ≤ most-bytes
+
 -- w is the first word of the line, which stands at the place, and ws is what is left
 pub record LetterCut (l : List ℕ) (place : ℕ) (w : Word) (ws : Words) : Type 0 where
   pub cut : words l ≡ text w ∷ left ws
+  pub tells : kind-told w ≡ kind-word (text w)
   pub there : place-of w ≡ place
-  pub line : ws .line .now ≡ l
-  pub from : ws .place ≡ place
-  pub within : ws .at ≤ length l
+  pub lies : InBook ws
 
 -- the next word was taken from ws, and us is what is left
 pub record Taken (ws us : Words) (w : Word) : Type 0 where
   pub cut : left ws ≡ text w ∷ left us
+  pub tells : number-of w ≡ numeral (text w)
   pub there : place-of w ≡ suc (ws .place + ws .at)
-  pub within : us .at ≤ length (us .line .now)
+  pub lies : InBook us
 
 abbrev pub NumberCut : Words → Words → Option Word → Type 0
-NumberCut ws us None = (left ws ≡ []) × (us ≡ ws)
+NumberCut ws us None = left ws ≡ []
 NumberCut ws us (Some w) = Taken ws us w

@@ -16,6 +16,10 @@ use Rattle.project.specs.declared.tables.Kind.the-variants.{Blank, And, Or, Bi}
 use Rattle.book.specs.declared.lines.LineKind.{LineKind}
 use Rattle.book.specs.declared.lines.LineKind.the-variants.{Capacities, Job, Pairing, Trailer}
 
+-- the most bytes of a book
+abbrev pub most-bytes : ℕ
+most-bytes = 65535
+
 -- the byte that ends a line
 abbrev pub lf : ℕ
 lf = 10

@@ -19,10 +19,7 @@ use Rattle.project.specs.declared.tables.Kind.the-variants.{Blank}
 use Rattle.project.specs.declared.tables.Pair.{Pair}
 use Rattle.book.specs.declared.lines.LineKind.{LineKind}
 use Rattle.book.specs.declared.lines.LineKind.the-variants.{Capacities, Job, Pairing, Trailer}
-use Rattle.book.specs.Lines.{lf, Content, lines, formed}
-
-abbrev pub most-bytes : ℕ
-most-bytes = 65535
+use Rattle.book.specs.Lines.{lf, most-bytes, Content, lines, formed}
 
 -- how many records the lent tables have room for
 pub record Sizes : Type 0 where

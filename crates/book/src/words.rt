@@ -6,7 +6,9 @@ ghost use lib.ListN.{length, drop};
 ghost use Rattle.std.specs.Options.{Cases};
 ghost use Rattle.std.specs.shelf.Lists.{leading};
 ghost use Rattle.book.specs.Lines.{numeral};
-ghost use Rattle.book.specs.Cuts.{other, after, text, LetterCut, NumberCut};
+ghost use Rattle.book.specs.Cuts.{other, after, text, LetterCut, NumberCut, InBook, number-of, kind-told};
+use crate::lines::LineKind;
+use crate::lines::line_kind;
 
 // The byte that ends a line.
 pub const LF: u8 = b'\n';
@@ -37,7 +39,9 @@ pub struct Words<'a> {
 // The first place from `from` on at which the byte stands, or the length.
 pub fn find(byte: u8, text: &[u8], from: usize) -> usize
     requires { ⌜ from ≤ length (now text) ⌝ }
-    ensures { λ r. ⌜ r ≡ from + leading (other byte) (drop from (now (text .entry))) ⌝ }
+    ensures value { λ r. ⌜ r ≡ from + leading (other byte) (drop from (now (text .entry))) ⌝ }
+    ensures low { λ r. ⌜ from ≤ r ⌝ }
+    ensures high { λ r. ⌜ r ≤ length (now (text .entry)) ⌝ }
 {
     for i in from..text.len() {
         if text[i] == byte {
@@ -64,9 +68,32 @@ pub fn numeral(word: &[u8]) -> Option<u32>
     Some(value)
 }
 
+impl Word<'_> {
+    // The number that the word writes, if it stands where a number may.
+    pub fn number(self) -> Option<u32>
+        ensures { λ r. ⌜ r ≡ number-of (self .entry) ⌝ }
+    {
+        match self {
+            Word::Letter(_, _) => None,
+            Word::Number(text, _) => numeral(text),
+        }
+    }
+
+    // The kind of line that the word tells, if it is the first of its line.
+    pub fn kind(self) -> Option<LineKind>
+        ensures { λ r. ⌜ r ≡ kind-told (self .entry) ⌝ }
+    {
+        match self {
+            Word::Letter(text, _) => line_kind(text),
+            Word::Number(_, _) => None,
+        }
+    }
+}
+
 impl<'a> Words<'a> {
     // The first word of a line that stands at the place, and what is left of the line.
     pub fn first(line: &'a [u8], place: usize) -> (Word<'a>, Words<'a>)
+        requires { ⌜ place + length (now line) ≤ 65535 ⌝ }
         ensures { λ r. ⌜ LetterCut (now (line .entry)) place (r .0) (r .1) ⌝ }
     {
         let end = find(SPACE, line, 0);
@@ -75,7 +102,7 @@ impl<'a> Words<'a> {
 
     // The next word, if there is one.
     pub fn next(&mut self) -> Option<Word<'a>>
-        requires { ⌜ now self .at ≤ length (now self .line .now) ⌝ }
+        requires { ⌜ InBook (now self) ⌝ }
         ensures { λ r. ⌜ NumberCut (now (self .entry)) (now (self .exit)) r ⌝ }
     {
         let line = self.line;

@@ -8,7 +8,8 @@ use Rattle.book.proofs.words.find.Needs as need
 
 pub returns-then-text-i : need.returns-then-text-i
 returns-then-text-i c =
-    omega (arith, leading-drop-no (other (c .args .byte)) (c .args .text .now) (c .loop-i .i) 0 (omega arith) (ap not (eq-eqb _ _ (c .if-text-i .taken))))
+    let e = leading-drop-no (other (c .args .byte)) (c .args .text .now) (c .loop-i .i) 0 (omega arith) (ap not (eq-eqb _ _ (c .if-text-i .taken))) in
+    record { value = omega arith; low = omega arith; high = omega arith }
 
 pub loop-i-again : need.loop-i-again
 loop-i-again c =
@@ -16,4 +17,5 @@ loop-i-again c =
 
 pub returns : need.returns
 returns c =
-    omega (arith, leading-drop-all (other (c .args .byte)) (c .args .text .now) (c .loop-i .i) (omega arith))
+    let e = leading-drop-all (other (c .args .byte)) (c .args .text .now) (c .loop-i .i) (omega arith) in
+    record { value = omega arith; low = omega arith; high = omega arith }

@@ -1,0 +1,16 @@
+use mathlib.Core.Path.{refl, sym, ap, subst, _∙_}
+use native.Mathlib.Omega.{arith}
+use lib.ListN.{take, drop}
+use mathlib.Core.List.{_∷_}
+use Rattle.book.specs.Cuts.{after}
+use Rattle.book.specs.Lines.{words}
+use Rattle.book.proofs.Cutting.{first-cut}
+use Rattle.book.proofs.words.Words.first.Needs as need
+
+pub returns : need.returns
+returns c = record {
+      cut = first-cut (c .args .line .now) (c .find-end .result) (c .find-end .ensures .value);
+      tells = refl;
+      there = refl;
+      lies = record { within = c .find-end .ensures .high; short = c .pre };
+    }

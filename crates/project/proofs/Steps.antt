@@ -11,9 +11,10 @@ use Rattle.std.proofs.shelf.Sums.{countBy-more-yes, countBy-more-no}
 use Rattle.std.proofs.shelf.Tests.{and-from, and-left, and-right, or-left}
 use Rattle.std.proofs.shelf.Ways.{tells}
 use Rattle.project.specs.declared.tables.Activity.{Activity}
+use Rattle.project.specs.declared.tables.Head.{Head}
 use Rattle.project.specs.declared.tables.Kind.the-variants.{Blank, Or}
 use Rattle.project.specs.declared.tables.Pair.{Pair}
-use Rattle.project.specs.Project.{most-capacity, capacities-fit, within, activity-fits, activities-fit, or-into, or-predecessors, same-pair, among, proper, follows, pairs-fit}
+use Rattle.project.specs.Project.{most-capacity, capacities-fit, within, activity-fits, activities-fit, or-into, or-predecessors, same-pair, among, proper, follows, pairs-fit, head-fits, sound}
 use Rattle.project.proofs.Same.{same-fields, unlike-fields, into-yes, into-other, into-no}
 
 -- r is the test of a list, x that of the next element and y that of the elements after it
@@ -79,3 +80,25 @@ module _ (n : ℕ) (ps : List Pair) (q : ℕ) (lt : q < length ps) (so : pairs-f
     pub pairs-on : true ≡ proper n (getD ps q blank) → true ≡ follows (take m ps) (getD ps q blank) → pairs-fit n [] ps ≡ pairs-fit n (take (q + 1) ps) (drop (q + 1) ps)
     pairs-on p e =
         goes-on _ _ _ pairs-next (and-from _ _ (sym p) (ap (λ k. follows (take k ps) (getD ps q blank)) (sym same) ∙ sym e))
+
+module _ (h : Head) (acts : List Activity) (ps : List Pair) where
+  pub no-head : false ≡ head-fits h acts ps → false ≡ sound h acts ps
+  no-head e = stops _ _ _ refl (sym e)
+
+  pub no-capacities : false ≡ capacities-fit (h .resources) (h .capacities) → false ≡ sound h acts ps
+  no-capacities e = sym (and-right (head-fits h acts ps) _ (and-left _ _ (sym e)))
+
+  module _ (head : true ≡ head-fits h acts ps) (capacities : true ≡ capacities-fit (h .resources) (h .capacities)) where
+    tables : sound h acts ps ≡ (activities-fit (h .capacities) (take (h .activities) acts) && pairs-fit (h .activities) [] (take (h .pairs) ps))
+    tables =
+        goes-on _ _ _ (goes-on (sound h acts ps) (head-fits h acts ps) _ refl (sym head)) (sym capacities)
+
+    -- `&activities[0..n]` is as long as n - 0, and likewise of the pairs
+    module _ (a p : ℕ) (same : a ≡ h .activities) (same′ : p ≡ h .pairs) (r : Bool) where
+      pub by-activities : r ≡ activities-fit (h .capacities) (take a acts) → r ≡ false → r ≡ sound h acts ps
+      by-activities e over =
+          over ∙ stops _ _ _ tables (ap (λ n. activities-fit (h .capacities) (take n acts)) (sym same) ∙ sym e ∙ over)
+
+      pub by-pairs : true ≡ activities-fit (h .capacities) (take a acts) → r ≡ pairs-fit (h .activities) [] (take p ps) → r ≡ sound h acts ps
+      by-pairs fit e =
+          e ∙ ap (λ n. pairs-fit (h .activities) [] (take n ps)) same′ ∙ sym (goes-on _ _ _ tables (ap (λ n. activities-fit (h .capacities) (take n acts)) (sym same) ∙ sym fit))

@@ -24,11 +24,10 @@ pub fn keeps_rules(head: &Head, activities: &[Activity], pairs: &[Pair]) -> bool
     ensures value { λ r. ⌜ r ≡ sound (now (head .entry)) (now (activities .entry)) (now (pairs .entry)) ⌝ }
     ensures decides { λ r. ⌜ Decides r (Sound (now (head .entry)) (now (activities .entry)) (now (pairs .entry))) ⌝ }
 {
-    if !head_fits(head, activities, pairs) {
+    if !head_fits(head, activities, pairs) || !capacities_fit(head.resources, &head.capacities) {
         return false;
     }
-    capacities_fit(head.resources, &head.capacities)
-        && activities_fit(&head.capacities, &activities[0..head.activities])
+    activities_fit(&head.capacities, &activities[0..head.activities])
         && pairs_fit(head.activities, &pairs[0..head.pairs])
 }
 

@@ -1,7 +1,7 @@
 -- What the tests of the capacities, the demands and the durations say. Assumes nothing.
 use mathlib.Core.Path.{_≡_, refl}
 use mathlib.Core.Logic.{⊎-elim}
-use mathlib.Core.Bool.{Bool, true, false, _&&_, cond}
+use mathlib.Core.Bool.{true, cond}
 use mathlib.Core.List.{List, [], _∷_}
 use Prim.Native.Nat.{ℕ, zero, suc, _-_, _≤_, _<_}
 use native.Mathlib.Omega.{arith}
@@ -10,7 +10,7 @@ use lib.ListN.{getD}
 use Rattle.std.specs.Orderings.{Decides}
 use Rattle.std.specs.shelf.Lists.{All}
 use Rattle.std.proofs.shelf.Elements.{all-weaker}
-use Rattle.std.proofs.shelf.Tests.{and-parts, and-from, leb-true, le-leb, cases-lt, lt-ltb, le-ltb}
+use Rattle.std.proofs.shelf.Tests.{and-parts, and-from, leb-true, le-leb, cases-lt}
 use Rattle.std.proofs.shelf.Ways.{tells, decides-and, decides-like, decides-by-and}
 use Rattle.project.specs.declared.tables.Activity.{Activity}
 use Rattle.project.specs.Project.{most-capacity, most-duration, demand, within, activity-fits, activities-fit, capacities-fit}

@@ -1,7 +1,7 @@
 -- What the tests of the pairs say. Assumes nothing.
 use mathlib.Core.Path.{_≡_, refl, sym, ap, subst, _∙_}
 use mathlib.Core.Logic.{⊎-elim}
-use mathlib.Core.Bool.{Bool, true, false, not, _&&_, _||_, cond}
+use mathlib.Core.Bool.{Bool, true, not, _&&_, _||_, cond}
 use mathlib.Core.List.{List, [], _∷_, _++_}
 use Prim.Native.Nat.{ℕ, _+_, _≤_, _<_}
 use native.Mathlib.Omega.{arith}
@@ -64,10 +64,10 @@ once-push ps q once new i j d lt in′ e =
     ⊎-elim
     (λ h. once i j d lt h (sym (getD-append-left ps (q ∷ []) d i (omega arith)) ∙ e ∙ getD-append-left ps (q ∷ []) d j h))
     (λ h.
-        let front : i < length ps = omega arith in
-        let last : length ps ≡ j = omega arith in
-        let here : getD ps i d ≡ q = sym (getD-append-left ps (q ∷ []) d i front) ∙ e ∙ getD-push ps q d j last in
-        new (i, front, λ d′. getD-default ps i d′ d front ∙ here))
+    let front : i < length ps = omega arith in
+    let last : length ps ≡ j = omega arith in
+    let here : getD ps i d ≡ q = sym (getD-append-left ps (q ∷ []) d i front) ∙ e ∙ getD-push ps q d j last in
+    new (i, front, λ d′. getD-default ps i d′ d front ∙ here))
     (cases-lt j (length ps))
 
 once-new : (ps : List Pair) (q : Pair) → Once (ps ++ q ∷ []) → Has ps q → ⊥
@@ -84,13 +84,13 @@ few-push ps q few e j =
     let most = few j in
     ⊎-elim
     (λ t.
-        let h = and-parts (isOr (q .kind)) (eqb (q .second) j) t in
-        let into = eqb-true (q .second) j (h .1) in
-        let one = ap (λ b. or-predecessors j ps + cond b 1 0) t in
-        ⊎-elim
-        (λ n. absurd (both-ways (isOr (q .kind)) (not-true _ n) (h .0)))
-        (λ l. let some = subst (λ k. or-predecessors k ps < most-or-predecessors) into (ltb-true _ _ l) in omega arith)
-        (or-cases _ _ e))
+    let h = and-parts (isOr (q .kind)) (eqb (q .second) j) t in
+    let into = eqb-true (q .second) j (h .1) in
+    let one = ap (λ b. or-predecessors j ps + cond b 1 0) t in
+    ⊎-elim
+    (λ n. absurd (both-ways (isOr (q .kind)) (not-true _ n) (h .0)))
+    (λ l. let some = subst (λ k. or-predecessors k ps < most-or-predecessors) into (ltb-true _ _ l) in omega arith)
+    (or-cases _ _ e))
     (λ t. let one = ap (λ b. or-predecessors j ps + cond b 1 0) t in omega arith)
     (cases-bool (or-into j q))
 
@@ -98,18 +98,17 @@ few-room : (ps : List Pair) (q : Pair) → Few (ps ++ q ∷ []) → room ps q �
 few-room ps q few =
     ⊎-elim
     (λ t.
-        let more = count-push (q .second) ps q in
-        let most = few (q .second) in
-        let one = ap (λ b. or-predecessors (q .second) ps + cond b 1 0) (and-from _ _ t (eq-eqb (q .second) (q .second) refl)) in
-        or-right (not (isOr (q .kind))) _ (lt-ltb _ _ (omega arith)))
+    let more = count-push (q .second) ps q in
+    let most = few (q .second) in
+    let one = ap (λ b. or-predecessors (q .second) ps + cond b 1 0) (and-from _ _ t (eq-eqb (q .second) (q .second) refl)) in
+    or-right (not (isOr (q .kind))) _ (lt-ltb _ _ (omega arith)))
     (λ t. or-left _ _ (not-from-false _ t))
     (cases-bool (isOr (q .kind)))
 
 -- of pairs that keep both rules, the ones that one more can follow are those with which they keep them still
 pub decides-follows : (before : List Pair) (q : Pair) → Once before → Few before → Decides (follows before q) (Once (before ++ q ∷ []) × Few (before ++ q ∷ []))
 decides-follows before q once few =
-    let new = decides-not (among q before) (decides-among q before) in
-    (
+    let new = decides-not (among q before) (decides-among q before) in (
       λ e. let h = and-parts (not (among q before)) (room before q) e in (once-push before q once (new .0 (h .0)), few-push before q few (h .1)),
       λ h. and-from _ _ (new .1 (once-new before q (h .0))) (few-room before q (h .1)),
     )

@@ -1,8 +1,8 @@
 -- What one turn of each loop of the rules tells. Assumes nothing.
 use mathlib.Core.Path.{_≡_, refl, sym, ap, _∙_}
 use mathlib.Core.Bool.{Bool, true, false, _&&_, _||_, cond}
-use mathlib.Core.List.{List, [], _∷_, _++_}
-use Prim.Native.Nat.{ℕ, _+_, _-_, _≤_, _<_}
+use mathlib.Core.List.{List, []}
+use Prim.Native.Nat.{ℕ, _+_, _-_, _<_}
 use native.Mathlib.Omega.{arith}
 use lib.Dec.{leb, ltb}
 use lib.ListN.{length, getD, take, drop}
@@ -24,7 +24,7 @@ stops r x y e h = sym (e ∙ and-left x y h)
 pub goes-on : (r x y : Bool) → r ≡ (x && y) → x ≡ true → r ≡ y
 goes-on r x y e h = e ∙ ap (λ t. t && y) h
 
-pub limit-from : (n k : ℕ) → cond (ltb 0 (n - k)) most-capacity 0 ≡ cond (ltb k n) most-capacity 0
+limit-from : (n k : ℕ) → cond (ltb 0 (n - k)) most-capacity 0 ≡ cond (ltb k n) most-capacity 0
 limit-from n k = grind (arith, tells)
 
 pub capacities-next : (n : ℕ) (cs : List ℕ) (k : ℕ) → k < length cs → capacities-fit n cs ≡ capacities-fit (n - k) (drop k cs) → capacities-fit n cs ≡ (leb (getD cs k 0) (cond (ltb k n) most-capacity 0) && capacities-fit (n - (k + 1)) (drop (k + 1) cs))

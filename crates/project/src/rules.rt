@@ -1,8 +1,6 @@
 // The rules of a project, tested on a head and two lent tables with any contents.
 ghost use mathlib.Core.Path.{_≡_};
 ghost use mathlib.Core.List.{[]};
-ghost use Prim.Native.Nat.{_≤_, _<_};
-ghost use lib.ListN.{length, take};
 ghost use Rattle.std.specs.Orderings.{Decides};
 ghost use Rattle.project.specs.Project.{Sound, sound, head-fits, capacities-fit, activities-fit, activity-fits, within, among, proper, follows, pairs-fit, or-predecessors};
 use crate::tables::Activity;

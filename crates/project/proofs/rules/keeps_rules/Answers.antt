@@ -12,7 +12,7 @@ use Rattle.project.proofs.rules.keeps_rules.Needs.{then-not-head-fits·by·the
 pub returns-then-not-head-fits : need.returns-then-not-head-fits
 returns-then-not-head-fits c =
     let is : false ≡ sound (c .args .head .now) (c .args .activities .now) (c .args .pairs .now) = elim (c .then-not-head-fits .came) [
-      then-not-head-fits·by·then-not-head-fits w ↦ no-head (c .args .head .now) (c .args .activities .now) (c .args .pairs .now) (w .if-not-head-fits .ensures tt)
+      | then-not-head-fits·by·then-not-head-fits w ↦ no-head (c .args .head .now) (c .args .activities .now) (c .args .pairs .now) (w .if-not-head-fits .ensures tt)
       | then-not-head-fits·by·else-not-head-fits·then-not-capacities-fit w ↦ no-capacities (c .args .head .now) (c .args .activities .now) (c .args .pairs .now) (w .if-not-capacities-fit .ensures tt)
     ] in
     record {

@@ -9,13 +9,13 @@ use Rattle.project.proofs.rules.or_predecessors.Needs.{then-eq·then-pair-acti
 
 pub loop-pair-again : need.loop-pair-again
 loop-pair-again c = elim (c .if-eq .came) [
-  then-eq·then-pair-activity w ↦ (
+  | then-eq·then-pair-activity w ↦ (
     w .count-is ∙ ap (λ n. n + 1) (c .loop-pair .inv .0) ∙ sym (count-yes (c .args .activity) (c .args .pairs .now) (c .loop-pair .pair-index) (c .loop-pair-test .taken) (w .if-eq .ensures tt) (w .if-pair-activity .taken)),
     omega (arith, w .count-is),
   )
   | else-eq w ↦ (
     w .count-is ∙ c .loop-pair .inv .0 ∙ sym (elim (w .else-eq .came) [
-      else-eq·by·then-eq·else-pair-activity w′ ↦ count-other (c .args .activity) (c .args .pairs .now) (c .loop-pair .pair-index) (c .loop-pair-test .taken) (w′ .if-pair-activity .left)
+      | else-eq·by·then-eq·else-pair-activity w′ ↦ count-other (c .args .activity) (c .args .pairs .now) (c .loop-pair .pair-index) (c .loop-pair-test .taken) (w′ .if-pair-activity .left)
       | else-eq·by·else-eq w′ ↦ count-no (c .args .activity) (c .args .pairs .now) (c .loop-pair .pair-index) (c .loop-pair-test .taken) (w′ .if-eq .ensures tt)
     ]),
     omega (arith, w .count-is),

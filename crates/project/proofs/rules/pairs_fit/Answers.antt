@@ -1,4 +1,4 @@
-use mathlib.Core.Path.{_≡_, sym, _∙_}
+use mathlib.Core.Path.{sym, _∙_}
 use Prim.Native.Nat.{_-_}
 use native.Mathlib.Omega.{arith}
 use lib.ListN.{take}
@@ -10,7 +10,7 @@ use Rattle.project.proofs.rules.pairs_fit.Needs.{then-not-is-proper·by·then-
 
 pub returns-then-not-is-proper : need.returns-then-not-is-proper
 returns-then-not-is-proper c = elim (c .then-not-is-proper .came) [
-  then-not-is-proper·by·then-not-is-proper w ↦ improper (c .args .activities) (c .args .pairs .now) (c .loop-q .q) (c .loop-q-test .taken) (c .loop-q .inv) (w .if-not-is-proper .ensures tt)
+  | then-not-is-proper·by·then-not-is-proper w ↦ improper (c .args .activities) (c .args .pairs .now) (c .loop-q .q) (c .loop-q-test .taken) (c .loop-q .inv) (w .if-not-is-proper .ensures tt)
   | then-not-is-proper·by·else-not-is-proper·then-not-can-follow w ↦ out-of-place (c .args .activities) (c .args .pairs .now) (c .loop-q .q) (c .loop-q-test .taken) (c .loop-q .inv) (c .loop-q .q - 0) (omega arith) (w .if-not-can-follow .ensures tt)
 ]
 

@@ -1,8 +1,6 @@
 // The rules of a project, tested on a head and two lent tables with any contents.
 ghost use mathlib.Core.Path.{_≡_};
 ghost use mathlib.Core.List.{[]};
-ghost use Prim.Native.Nat.{_≤_, _<_};
-ghost use lib.ListN.{length, take};
 ghost use Rattle.std.specs.Orderings.{Decides};
 ghost use Rattle.project.specs.Project.{Sound, sound, head-fits, capacities-fit, activities-fit, activity-fits, within, among, proper, follows, pairs-fit, or-predecessors};
 use crate::tables::Activity;
@@ -24,11 +22,10 @@ pub fn keeps_rules(head: &Head, activities: &[Activity], pairs: &[Pair]) -> bool
     ensures value { λ r. ⌜ r ≡ sound (now (head .entry)) (now (activities .entry)) (now (pairs .entry)) ⌝ }
     ensures decides { λ r. ⌜ Decides r (Sound (now (head .entry)) (now (activities .entry)) (now (pairs .entry))) ⌝ }
 {
-    if !head_fits(head, activities, pairs) {
+    if !head_fits(head, activities, pairs) || !capacities_fit(head.resources, &head.capacities) {
         return false;
     }
-    capacities_fit(head.resources, &head.capacities)
-        && activities_fit(&head.capacities, &activities[0..head.activities])
+    activities_fit(&head.capacities, &activities[0..head.activities])
         && pairs_fit(head.activities, &pairs[0..head.pairs])
 }
 

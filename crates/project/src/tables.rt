@@ -2,10 +2,15 @@
 
 // The limits of a project.
 pub const MOST_ACTIVITIES: usize = 62;
+
 pub const MOST_RESOURCES: usize = 4;
+
 pub const MOST_CAPACITY: u8 = 50;
+
 pub const MOST_DURATION: u8 = 60;
+
 pub const MOST_PAIRS: usize = 256;
+
 pub const MOST_OR_PREDECESSORS: usize = 8;
 
 // An activity's number, counted from 1.
@@ -20,7 +25,10 @@ pub struct Activity {
 
 impl Activity {
     // The zeroed record.
-    pub const BLANK: Activity = Activity { duration: 0, demands: [0; MOST_RESOURCES] };
+    pub const BLANK: Activity = Activity {
+        duration: 0,
+        demands: [0; MOST_RESOURCES],
+    };
 }
 
 // What a pair asks of its two activities.
@@ -45,7 +53,11 @@ pub struct Pair {
 
 impl Pair {
     // The zeroed record.
-    pub const BLANK: Pair = Pair { kind: Kind::Blank, first: 0, second: 0 };
+    pub const BLANK: Pair = Pair {
+        kind: Kind::Blank,
+        first: 0,
+        second: 0,
+    };
 }
 
 // How many activities, resources and pairs a project has, and the capacities of its resources. The capacities past the

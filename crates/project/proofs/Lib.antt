@@ -1,0 +1,5 @@
+pub mod Decided
+pub mod Numbers
+pub mod Pairs
+pub mod Same
+pub mod Steps

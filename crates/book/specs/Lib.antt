@@ -3,4 +3,5 @@ pub mod Cuts
 pub mod Lines
 pub mod Parsed
 pub mod Reading
+pub mod Steps
 pub mod Written

@@ -1,0 +1,78 @@
+-- One line taken into the lent tables, by the head and the tables so far. Assumes nothing.
+use mathlib.Core.Path.{_≡_}
+use mathlib.Core.Bool.{Bool, true, false, not, cond, _&&_}
+use mathlib.Core.List.{List, [], _∷_, _++_}
+use Prim.Native.Nat.{ℕ, _+_, _-_, _≤_}
+use lib.Dec.{ltb}
+use lib.ListN.{length, getD, take, drop, set}
+use Rattle.std.specs.declared.option.Option.{Option}
+use Rattle.std.specs.declared.option.Option.the-variants.{Some, None}
+use Rattle.std.specs.declared.result.Result.{Result}
+use Rattle.std.specs.declared.result.Result.the-variants.{Ok, Err}
+use Rattle.project.specs.Project.{Project, project-of, head-of, filled, most-activities, most-resources, most-pairs, activity-fits, proper, follows}
+use Rattle.project.specs.Refusals.{Refused, refused, answer}
+use Rattle.project.specs.declared.refusal.Refusal.{Refusal}
+use Rattle.project.specs.declared.tables.Activity.{Activity}
+use Rattle.project.specs.declared.tables.Head.{Head}
+use Rattle.project.specs.declared.tables.Kind.{Kind}
+use Rattle.project.specs.declared.tables.Pair.{Pair}
+use Rattle.book.specs.Lines.{Content}
+use Rattle.book.specs.Parsed.{most-numbers, Holds}
+use Rattle.book.specs.Reading.{Sofar}
+use Rattle.book.specs.declared.lines.Line.{Line}
+use Rattle.book.specs.declared.lines.Numbers.{Numbers}
+
+-- the project that the head and the tables hold so far
+abbrev pub sofar-of : Option Head → List Activity → List Pair → Sofar
+sofar-of None acts ps = None
+sofar-of (Some h) acts ps = Some (project-of h acts ps)
+
+-- the tables have the head's records, and the head is within the limits
+pub record Kept (h : Head) (acts : List Activity) (ps : List Pair) : Type 0 where
+  pub activities : h .activities ≤ length acts
+  pub pairs : h .pairs ≤ length ps
+  pub few : h .activities ≤ most-activities
+  pub resources : h .resources ≤ most-resources
+
+abbrev pub KeptSofar : Option Head → List Activity → List Pair → Type 0
+KeptSofar None acts ps = Unit {0}
+KeptSofar (Some h) acts ps = Kept h acts ps
+
+-- the numbers of a line
+abbrev pub numbers-of : Numbers → List ℕ
+numbers-of v = take (v .count) (v .values)
+
+abbrev pub content-in : Line → Content
+content-in l = record { kind = l .kind; numbers = numbers-of (l .numbers) }
+
+-- the records that the array of a line's numbers gives
+abbrev pub activity-in : List ℕ → Activity
+activity-in vs = record { duration = getD vs 0 0; demands = take most-resources (drop 1 vs) }
+
+abbrev pub pair-in : Kind → List ℕ → Pair
+pair-in k vs = record { kind = k; first = getD vs 0 0; second = getD vs 1 0 }
+
+-- the activity to add, or the number of what is wrong with it
+abbrev pub activity-judged : Head → List ℕ → List Activity → Result Activity ℕ
+activity-judged h vs acts =
+    cond (ltb 0 (h .pairs)) (Err 3) (cond (activity-fits (h .capacities) (activity-in vs)) (cond (ltb (h .activities) most-activities && ltb (h .activities) (length acts)) (Ok (activity-in vs)) (Err 6)) (Err 4))
+
+abbrev pub pair-judged : Head → Kind → List ℕ → List Pair → Result Pair ℕ
+pair-judged h k vs ps =
+    cond (proper (h .activities) (pair-in k vs) && follows (take (h .pairs) ps) (pair-in k vs)) (cond (ltb (h .pairs) most-pairs && ltb (h .pairs) (length ps)) (Ok (pair-in k vs)) (Err 6)) (Err 5)
+
+abbrev pub activity-more : Head → Head
+activity-more h = record { activities = h .activities + 1; resources = h .resources; capacities = h .capacities; pairs = h .pairs }
+
+abbrev pub pair-more : Head → Head
+pair-more h = record { activities = h .activities; resources = h .resources; capacities = h .capacities; pairs = h .pairs + 1 }
+
+-- a record was put at place i of the table, and the head is now h; or the line was refused and the table is as it was
+abbrev pub Put : {A : Type 0} → Result A ℕ → ℕ → Head → ℕ → List A → Result Head Refusal → List A → Type 0
+Put (Ok a) place h i xs r ys = (r ≡ Ok h) × (ys ≡ set xs i a)
+Put (Err n) place h i xs r ys = (answer r ≡ Err (refused n place)) × (ys ≡ xs)
+
+-- the tables hold the project p, and r is its head; or the line was refused
+abbrev pub Took : Result Project ℕ → ℕ → List Activity → List Pair → Result Head Refusal → List Activity → List Pair → Type 0
+Took (Ok p) place acts ps r acts′ ps′ = (r ≡ Ok (head-of p)) × (acts′ ≡ filled (p .activities) acts) × (ps′ ≡ filled (p .pairs) ps) × Kept (head-of p) acts′ ps′
+Took (Err n) place acts ps r acts′ ps′ = answer r ≡ Err (refused n place)

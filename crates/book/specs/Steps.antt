@@ -4,12 +4,12 @@ use mathlib.Core.Bool.{Bool, true, false, not, cond, _&&_}
 use mathlib.Core.List.{List, [], _∷_, _++_}
 use Prim.Native.Nat.{ℕ, _+_, _-_, _≤_}
 use lib.Dec.{ltb}
-use lib.ListN.{length, getD, take, drop, set}
+use lib.ListN.{length, getD, take, drop, set, replicate}
 use Rattle.std.specs.declared.option.Option.{Option}
 use Rattle.std.specs.declared.option.Option.the-variants.{Some, None}
 use Rattle.std.specs.declared.result.Result.{Result}
 use Rattle.std.specs.declared.result.Result.the-variants.{Ok, Err}
-use Rattle.project.specs.Project.{Project, project-of, head-of, filled, most-activities, most-resources, most-pairs, activity-fits, proper, follows}
+use Rattle.project.specs.Project.{Project, project-of, head-of, filled, most-activities, most-resources, most-pairs, activity-fits, proper, follows, within, most-capacity, isBlank}
 use Rattle.project.specs.Refusals.{Refused, refused, answer}
 use Rattle.project.specs.declared.refusal.Refusal.{Refusal}
 use Rattle.project.specs.declared.tables.Activity.{Activity}
@@ -20,6 +20,8 @@ use Rattle.book.specs.Lines.{Content}
 use Rattle.book.specs.Parsed.{most-numbers, Holds}
 use Rattle.book.specs.Reading.{Sofar}
 use Rattle.book.specs.declared.lines.Line.{Line}
+use Rattle.book.specs.declared.lines.LineKind.{LineKind}
+use Rattle.book.specs.declared.lines.LineKind.the-variants.{Capacities, Job, Pairing, Trailer}
 use Rattle.book.specs.declared.lines.Numbers.{Numbers}
 
 -- the project that the head and the tables hold so far
@@ -52,6 +54,11 @@ activity-in vs = record { duration = getD vs 0 0; demands = take most-resources 
 abbrev pub pair-in : Kind → List ℕ → Pair
 pair-in k vs = record { kind = k; first = getD vs 0 0; second = getD vs 1 0 }
 
+-- the head that a C line gives, or the number of what is wrong with it
+abbrev pub opening : Numbers → Result Head ℕ
+opening v =
+    cond (within (take most-resources (v .values)) (replicate most-resources most-capacity)) (Ok (record { activities = 0; resources = v .count; capacities = take most-resources (v .values); pairs = 0 })) (Err 4)
+
 -- the activity to add, or the number of what is wrong with it
 abbrev pub activity-judged : Head → List ℕ → List Activity → Result Activity ℕ
 activity-judged h vs acts =
@@ -66,6 +73,22 @@ activity-more h = record { activities = h .activities + 1; resources = h .resour
 
 abbrev pub pair-more : Head → Head
 pair-more h = record { activities = h .activities; resources = h .resources; capacities = h .capacities; pairs = h .pairs + 1 }
+
+abbrev pub placed : {A : Type 0} → ℕ → Result A ℕ → Result A Refused
+placed place (Ok a) = Ok a
+placed place (Err n) = Err (refused n place)
+
+abbrev pub lettered : LineKind → Bool
+lettered Capacities = true
+lettered Job = true
+lettered (Pairing k) = not (isBlank k)
+lettered Trailer = true
+
+-- the line has a letter, and its array has its numbers; those of a C line are few enough
+pub record Ready (l : Line) : Type 0 where
+  pub numbers : Holds (l .numbers) (numbers-of (l .numbers))
+  pub lettered : lettered (l .kind) ≡ true
+  pub capped : l .kind ≡ Capacities → l .numbers .count ≤ most-resources
 
 -- a record was put at place i of the table, and the head is now h; or the line was refused and the table is as it was
 abbrev pub Put : {A : Type 0} → Result A ℕ → ℕ → Head → ℕ → List A → Result Head Refusal → List A → Type 0

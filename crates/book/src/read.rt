@@ -9,7 +9,7 @@ ghost use Rattle.project.specs.Project.{within, activity-fits, proper, isBlank,
 ghost use Rattle.project.specs.Refusals.{refused, answer};
 ghost use Rattle.book.specs.Parsed.{Holds};
 ghost use Rattle.book.specs.Reading.{judged, sizes};
-ghost use Rattle.book.specs.Steps.{activity-in, pair-in, activity-judged, pair-judged, activity-more, pair-more, Put, Took, Kept, KeptSofar, sofar-of, content-in, numbers-of};
+ghost use Rattle.book.specs.Steps.{activity-in, pair-in, activity-judged, pair-judged, opening, placed, Ready, activity-more, pair-more, Put, Took, Kept, KeptSofar, sofar-of, content-in, numbers-of};
 use crate::lines::Line;
 use crate::lines::LineKind;
 use crate::lines::Numbers;
@@ -69,6 +69,16 @@ fn pair_of(kind: Kind, values: &[u32; 5], activities: usize) -> Option<Pair>
     Some(Pair { kind, first: first as ActivityNumber, second: second as ActivityNumber })
 }
 
+// The head of a project that has the capacities of a C line and nothing else yet.
+fn open_head(numbers: &Numbers, place: usize) -> Result<Head, Refusal>
+    ensures { λ r. ⌜ answer r ≡ placed place (opening (now (numbers .entry))) ⌝ }
+{
+    let Some(capacities) = bounded(&numbers.values[0..4], &[MOST_CAPACITY; MOST_RESOURCES]) else {
+        return Err(Refusal::OverLimit(place));
+    };
+    Ok(Head { activities: 0, resources: numbers.count, capacities, pairs: 0 })
+}
+
 fn add_activity(head: Head, values: &[u32; 5], place: usize, activities: &mut [Activity]) -> Result<Head, Refusal>
     ensures { λ r. ⌜ Put (activity-judged head (now (values .entry)) (now (activities .entry))) place (activity-more head) (head .activities) (now (activities .entry)) r (now (activities .exit)) ⌝ }
 {
@@ -104,4 +114,18 @@ fn add_pair(head: Head, kind: Kind, values: &[u32; 5], place: usize, pairs: &mut
     }
     pairs[m] = pair;
     Ok(Head { pairs: m + 1, ..head })
+}
+
+// Takes one line into the tables. `sofar` is the head of the lines before, and there is none before the C line.
+fn take_line(sofar: Option<Head>, line: &Line, place: usize, activities: &mut [Activity], pairs: &mut [Pair]) -> Result<Head, Refusal>
+    requires ready { ⌜ Ready (now line) ⌝ }
+    requires kept { ⌜ KeptSofar sofar (now activities) (now pairs) ⌝ }
+    ensures { λ r. ⌜ Took (judged (sizes (now (activities .entry)) (now (pairs .entry))) (sofar-of sofar (now (activities .entry)) (now (pairs .entry))) (Some (content-in (now (line .entry))))) place (now (activities .entry)) (now (pairs .entry)) r (now (activities .exit)) (now (pairs .exit)) ⌝ }
+{
+    match (sofar, line.kind) {
+        (None, LineKind::Capacities) => open_head(&line.numbers, place),
+        (Some(head), LineKind::Job) => add_activity(head, &line.numbers.values, place, activities),
+        (Some(head), LineKind::Pairing(kind)) => add_pair(head, kind, &line.numbers.values, place, pairs),
+        _ => Err(Refusal::OutOfOrder(place)),
+    }
 }

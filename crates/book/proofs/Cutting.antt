@@ -19,6 +19,7 @@ words-cut (b ∷ bs) = go (eqb b space) (words-cut bs)
   where
     k : ℕ
     k = leading (other space) bs
+
     go : (t : Bool) → words bs ≡ take k bs ∷ after (drop k bs) → cond t ([] ∷ words bs) (onto b (words bs)) ≡ take (cond (not t) (1 + k) 0) (b ∷ bs) ∷ after (drop (cond (not t) (1 + k) 0) (b ∷ bs))
     go true e = refl
     go false e = ap (onto b) e ∙ ap (λ n. take n (b ∷ bs) ∷ after (drop n (b ∷ bs))) (sym (one-add k))

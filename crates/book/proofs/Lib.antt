@@ -1,5 +1,14 @@
+pub mod Acceptance
 pub mod Adding
+pub mod Bodies
 pub mod Cutting
 pub mod Digits
+pub mod Ending
+pub mod Faulting
+pub mod Frames
+pub mod Looping
 pub mod Numbering
+pub mod Reaching
+pub mod Refusing
+pub mod Spelling
 pub mod Taking

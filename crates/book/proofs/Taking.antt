@@ -45,13 +45,14 @@ nil-test (x ∷ xs) (suc m) le = sym (ap not (lt-ltb 0 (suc m) (omega arith)))
 
 -- The array of a line's numbers.
 module _ (vs ns : List ℕ) (few : length ns ≤ most-numbers) (is : vs ≡ ns ++ replicate (most-numbers - length ns) 0) where
-  value-at : (i : ℕ) → i < most-numbers → getD vs i 0 ≡ getD ns i 0
+  pub value-at : (i : ℕ) → i < most-numbers → getD vs i 0 ≡ getD ns i 0
   value-at i lt = ap (λ l. getD l i 0) is ∙ go ns (most-numbers - length ns) i
     where
       zeros : (k i : ℕ) → getD {A = ℕ} (replicate k 0) i 0 ≡ 0
       zeros zero i = refl
       zeros (suc k) zero = refl
       zeros (suc k) (suc i) = zeros k i
+
       go : (ns : List ℕ) (k i : ℕ) → getD (ns ++ replicate k 0) i 0 ≡ getD ns i 0
       go [] k i = zeros k i
       go (n ∷ ns) k zero = refl
@@ -69,6 +70,7 @@ module _ (vs ns : List ℕ) (few : length ns ≤ most-numbers) (is : vs ≡ ns +
         where
           the-sum : (a : ℕ) → a ≤ most-resources → a + (most-resources - a) ≡ most-resources
           the-sum a h = omega arith
+
           whole : (l : List ℕ) → take (length l) l ≡ l
           whole [] = refl
           whole (x ∷ l) = ap (λ k. x ∷ k) (whole l)
@@ -88,8 +90,7 @@ module _ (h : Head) (acts : List Activity) (ps : List Pair) (kept : Kept h acts 
   took-activity a r acts′ few room is set-is =
       let n = length-push (take (h .activities) acts) a ∙ ap (λ k. k + 1) (length-take-le (h .activities) acts (kept .activities)) in
       let m = length-take-le (h .pairs) ps (kept .pairs) in
-      let l : length acts′ ≡ length acts = ap length set-is ∙ length-set acts (h .activities) a in
-      (
+      let l : length acts′ ≡ length acts = ap length set-is ∙ length-set acts (h .activities) a in (
         is ∙ ap Ok (λ i. record { activities = sym n i; resources = h .resources; capacities = h .capacities; pairs = sym m i }),
         set-is ∙ sym (filled-push acts (h .activities) a room),
         sym (filled-same ps (h .pairs) (kept .pairs)),
@@ -100,8 +101,7 @@ module _ (h : Head) (acts : List Activity) (ps : List Pair) (kept : Kept h acts 
   took-pair q r ps′ room is set-is =
       let n = length-take-le (h .activities) acts (kept .activities) in
       let m = length-push (take (h .pairs) ps) q ∙ ap (λ k. k + 1) (length-take-le (h .pairs) ps (kept .pairs)) in
-      let l : length ps′ ≡ length ps = ap length set-is ∙ length-set ps (h .pairs) q in
-      (
+      let l : length ps′ ≡ length ps = ap length set-is ∙ length-set ps (h .pairs) q in (
         is ∙ ap Ok (λ i. record { activities = sym n i; resources = h .resources; capacities = h .capacities; pairs = sym m i }),
         sym (filled-same acts (h .activities) (kept .activities)),
         set-is ∙ sym (filled-push ps (h .pairs) q room),
@@ -182,6 +182,7 @@ take-capacities v acts ps place r holds few is =
   where
     head : List ℕ → Head
     head cs = record { activities = 0; resources = v .count; capacities = cs; pairs = 0 }
+
     go : (t : Bool) → length (numbers-of v) ≤ most-resources → answer r ≡ placed place (cond t (Ok (head (padded (numbers-of v)))) (Err 4)) → Took (cond (not t) (Err 4) (Ok (opened (numbers-of v)))) place acts ps r acts ps
     go false le e = e
     go true le e = (

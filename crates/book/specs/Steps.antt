@@ -3,7 +3,7 @@ use mathlib.Core.Path.{_≡_}
 use mathlib.Core.Bool.{Bool, true, false, not, cond, _&&_}
 use mathlib.Core.List.{List, [], _∷_, _++_}
 use Prim.Native.Nat.{ℕ, _+_, _-_, _≤_}
-use lib.Dec.{ltb}
+use lib.Dec.{eqb, leb, ltb}
 use lib.ListN.{length, getD, take, drop, set, replicate}
 use Rattle.std.specs.declared.option.Option.{Option}
 use Rattle.std.specs.declared.option.Option.the-variants.{Some, None}
@@ -18,7 +18,8 @@ use Rattle.project.specs.declared.tables.Kind.{Kind}
 use Rattle.project.specs.declared.tables.Pair.{Pair}
 use Rattle.book.specs.Lines.{Content}
 use Rattle.book.specs.Parsed.{most-numbers, Holds}
-use Rattle.book.specs.Reading.{Sofar}
+use Rattle.book.specs.Reading.{Sofar, Trailed}
+use Rattle.book.specs.declared.reader.Trailer.{Trailer as Found}
 use Rattle.book.specs.declared.lines.Line.{Line}
 use Rattle.book.specs.declared.lines.LineKind.{LineKind}
 use Rattle.book.specs.declared.lines.LineKind.the-variants.{Capacities, Job, Pairing, Trailer}
@@ -28,6 +29,10 @@ use Rattle.book.specs.declared.lines.Numbers.{Numbers}
 abbrev pub sofar-of : Option Head → List Activity → List Pair → Sofar
 sofar-of None acts ps = None
 sofar-of (Some h) acts ps = Some (project-of h acts ps)
+
+abbrev pub resources-known : Option Head → ℕ
+resources-known None = 0
+resources-known (Some h) = h .resources
 
 -- the tables have the head's records, and the head is within the limits
 pub record Kept (h : Head) (acts : List Activity) (ps : List Pair) : Type 0 where
@@ -99,3 +104,17 @@ Put (Err n) place h i xs r ys = (answer r ≡ Err (refused n place)) × (ys ≡ 
 abbrev pub Took : Result Project ℕ → ℕ → List Activity → List Pair → Result Head Refusal → List Activity → List Pair → Type 0
 Took (Ok p) place acts ps r acts′ ps′ = (r ≡ Ok (head-of p)) × (acts′ ≡ filled (p .activities) acts) × (ps′ ≡ filled (p .pairs) ps) × Kept (head-of p) acts′ ps′
 Took (Err n) place acts ps r acts′ ps′ = answer r ≡ Err (refused n place)
+
+abbrev pub trailer-told : Option Found → Option Trailed
+trailer-told None = None
+trailer-told (Some t) = Some (record { place = t .place; start = t .start; count = t .count })
+
+-- the last step, by the head of the lines and their number
+abbrev pub closing : Found → ℕ → Option Head → Result Head Refused
+closing t n None = Err (refused 7 (t .place))
+closing t n (Some h) = cond (eqb (t .count) n && leb 1 (h .activities)) (Ok h) (Err (refused 7 (t .place)))
+
+-- the tables hold the project that was read, and r is its head; or r says why it was refused
+abbrev pub Reads : Result Project Refused → List Activity → List Pair → Result Head Refusal → List Activity → List Pair → Type 0
+Reads (Ok p) acts ps r acts′ ps′ = (r ≡ Ok (head-of p)) × (acts′ ≡ filled (p .activities) acts) × (ps′ ≡ filled (p .pairs) ps)
+Reads (Err e) acts ps r acts′ ps′ = answer r ≡ Err e

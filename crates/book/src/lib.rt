@@ -1,4 +1,4 @@
 // Books: the text form of a project, read into lent tables and written from them.
 mod lines;
-mod read;
+mod reader;
 mod words;

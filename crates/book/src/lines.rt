@@ -72,7 +72,12 @@ fn number_range(kind: LineKind, resources: usize) -> (usize, usize)
 }
 
 // The numbers that the words write, of which there are `fewest` to `most`. The line stands at the place.
-fn read_numbers(mut words: Words<'_>, fewest: usize, most: usize, place: usize) -> Result<Numbers, Refusal>
+fn read_numbers(
+    mut words: Words<'_>,
+    fewest: usize,
+    most: usize,
+    place: usize,
+) -> Result<Numbers, Refusal>
     requires within { ⌜ InBook words ⌝ }
     requires order { ⌜ fewest ≤ most ⌝ }
     requires bound { ⌜ most ≤ 5 ⌝ }
@@ -96,7 +101,10 @@ fn read_numbers(mut words: Words<'_>, fewest: usize, most: usize, place: usize) 
         // The words run over.
         return Err(Refusal::BadForm(place));
     };
-    Ok(Numbers { count: most, values })
+    Ok(Numbers {
+        count: most,
+        values,
+    })
 }
 
 // What a line says, which stands at the place, where the project has so many resources.

@@ -97,7 +97,14 @@ impl<'a> Words<'a> {
         ensures { λ r. ⌜ LetterCut (now (line .entry)) place (r .0) (r .1) ⌝ }
     {
         let end = find(SPACE, line, 0);
-        (Word::Letter(&line[0..end], place), Words { line, place, at: end })
+        (
+            Word::Letter(&line[0..end], place),
+            Words {
+                line,
+                place,
+                at: end,
+            },
+        )
     }
 
     // The next word, if there is one.

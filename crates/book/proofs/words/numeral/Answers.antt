@@ -16,8 +16,7 @@ returns-then-not-is-ascii-digit c = no-numeral (c .args .word .now) (c .loop-dig
 pub loop-digit-again : need.loop-digit-again
 loop-digit-again c =
     let d = c .if-not-is-ascii-digit .ensures tt .cases in
-    let lt = c .loop-digit-test .taken in
-    (
+    let lt = c .loop-digit-test .taken in (
       digits-more (c .args .word .now) _ lt (c .loop-digit .inv .0) (sym (c .if-not-is-ascii-digit .ensures tt .value)),
       value-step (c .args .word .now) _ _ lt d (c .loop-digit .inv .1),
       value-bound _ _ _ (c .loop-digit .inv .2) (omega arith),

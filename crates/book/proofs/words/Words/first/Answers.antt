@@ -9,8 +9,8 @@ use Rattle.book.proofs.words.Words.first.Needs as need
 
 pub returns : need.returns
 returns c = record {
-      cut = first-cut (c .args .line .now) (c .find-end .result) (c .find-end .ensures .value);
-      tells = refl;
-      there = refl;
-      lies = record { within = c .find-end .ensures .high; short = c .pre };
-    }
+  cut = first-cut (c .args .line .now) (c .find-end .result) (c .find-end .ensures .value);
+  tells = refl;
+  there = refl;
+  lies = record { within = c .find-end .ensures .high; short = c .pre };
+}

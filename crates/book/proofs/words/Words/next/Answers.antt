@@ -8,8 +8,8 @@ returns-then-at-line c = none-cut (c .args .self .now .line .now) (c .args .self
 
 pub returns : need.returns
 returns c = record {
-      cut = next-cut (c .args .self .now .line .now) (c .args .self .now .at) (c .find-end .result) (omega arith) (c .find-end .ensures .value);
-      tells = refl;
-      there = omega arith;
-      lies = record { within = c .find-end .ensures .high; short = c .pre .short };
-    }
+  cut = next-cut (c .args .self .now .line .now) (c .args .self .now .at) (c .find-end .result) (omega arith) (c .find-end .ensures .value);
+  tells = refl;
+  there = omega arith;
+  lies = record { within = c .find-end .ensures .high; short = c .pre .short };
+}

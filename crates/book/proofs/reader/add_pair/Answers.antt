@@ -1,6 +1,6 @@
 use mathlib.Core.Path.{refl}
 use Rattle.book.proofs.Adding.{cannot-follow, no-room, put-pair}
-use Rattle.book.proofs.read.add_pair.Needs as need
+use Rattle.book.proofs.reader.add_pair.Needs as need
 
 pub returns-then-not-can-follow : need.returns-then-not-can-follow
 returns-then-not-can-follow c =

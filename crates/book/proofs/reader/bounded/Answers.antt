@@ -7,7 +7,7 @@ use Rattle.std.proofs.shelf.Lists.{drop-all, take-all, take-more, take-more-set
 use Rattle.std.proofs.shelf.Tests.{le-leb, lt-leb, cond-true, cond-false}
 use Rattle.project.specs.Project.{within}
 use Rattle.project.proofs.Steps.{stops, goes-on, within-next}
-use Rattle.book.proofs.read.bounded.Needs as need
+use Rattle.book.proofs.reader.bounded.Needs as need
 
 pub returns-then-numbers-k : need.returns-then-numbers-k
 returns-then-numbers-k c =

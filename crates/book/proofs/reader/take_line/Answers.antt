@@ -1,7 +1,7 @@
 use mathlib.Core.Path.{refl, sym}
 use Rattle.book.specs.Steps.{numbers-of}
 use Rattle.book.proofs.Taking.{take-capacities, take-job, take-pair, at-line, kept-at}
-use Rattle.book.proofs.read.take_line.Needs as need
+use Rattle.book.proofs.reader.take_line.Needs as need
 
 pub returns-in-None-Capacities : need.returns-in-None-Capacities
 returns-in-None-Capacities c =

@@ -1,7 +1,7 @@
 use mathlib.Core.Path.{_≡_}
 use lib.ListN.{length, take, drop}
 use Rattle.project.specs.Project.{within}
-use Rattle.book.proofs.read.bounded.Given as given
+use Rattle.book.proofs.reader.bounded.Given as given
 
 abbrev pub Inv-loop-k : given.InvT-loop-k
 Inv-loop-k l =

@@ -1,4 +1,5 @@
 pub mod Acceptance
+pub mod Answering
 pub mod Adding
 pub mod Bodies
 pub mod Cutting

@@ -133,7 +133,7 @@ refilled front xs ys zs n within more old new =
     ap₂-filled e = ap (λ l. filled l zs) e
 
 -- the project that the tables hold is the one that was read
-held : (q : Project) (acts : List Activity) (ps : List Pair) (acts₀ : List Activity) (ps₀ : List Pair) → acts ≡ filled (q .activities) acts₀ → ps ≡ filled (q .pairs) ps₀ → project-of (head-of q) acts ps ≡ q
+pub held : (q : Project) (acts : List Activity) (ps : List Pair) (acts₀ : List Activity) (ps₀ : List Pair) → acts ≡ filled (q .activities) acts₀ → ps ≡ filled (q .pairs) ps₀ → project-of (head-of q) acts ps ≡ q
 held q acts ps acts₀ ps₀ a b = λ i. record {
   resources = q .resources;
   capacities = q .capacities;
@@ -276,3 +276,11 @@ refusal (Ok p) acts ps r acts′ ps′ h e la lp =
     absurd (true≢false z)
 refusal (Err n) acts ps r acts′ ps′ h e la lp =
     (h, ap (λ n. replicate n blank-activity) la, ap (λ n. replicate n blank-pair) lp)
+
+pub acceptance : (o : Result Project Refused) (acts : List Activity) (ps : List Pair) (r : Result Head Refusal) (acts′ : List Activity) (ps′ : List Pair) → Reads o acts ps r acts′ ps′ → false ≡ isErr r → (answer r ≡ head-answer o) × (acts′ ≡ activities-after o acts) × (ps′ ≡ pairs-after o ps)
+acceptance (Ok p) acts ps r acts′ ps′ h e = (ap answer (h .0), h .1, h .2)
+acceptance (Err n) acts ps r acts′ ps′ h e = absurd (none r h e)
+  where
+    none : (r : Result Head Refusal) → answer r ≡ Err n → false ≡ isErr r → ⊥
+    none (Ok x) h e = let z : _≡_ {A = ℕ} 0 1 = cc in omega arith
+    none (Err x) h e = true≢false (sym e)

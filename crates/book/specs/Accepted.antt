@@ -8,11 +8,15 @@ use Prim.Native.Nat.{ℕ, suc, _+_, _^_, _≤_, _<_}
 use lib.Dec.{eqb}
 use lib.ListN.{length, getD, take}
 use Rattle.std.specs.Joined.{joined}
+use Rattle.std.specs.declared.result.Result.{Result}
 use Rattle.std.specs.declared.result.Result.the-variants.{Ok, Err}
 use Rattle.std.specs.shelf.Lists.{All, Has, countBy}
-use Rattle.project.specs.Project.{Project, Shaped, Rules, isOr, most-activities, most-capacity, most-duration, most-pairs, most-or-predecessors}
+use Rattle.project.specs.Project.{Project, project-of, head-of, Shaped, Rules, isOr, most-activities, most-capacity, most-duration, most-pairs, most-or-predecessors}
 use Rattle.project.specs.Refusals.{refused}
-use Rattle.project.specs.declared.tables.Kind.{Kind}
+use Rattle.project.specs.declared.refusal.Refusal.{Refusal}
+use Rattle.project.specs.declared.tables.Activity.{Activity}
+use Rattle.project.specs.declared.tables.Head.{Head}
+use Rattle.project.specs.declared.tables.Pair.{Pair}
 use Rattle.project.specs.declared.tables.Kind.the-variants.{Blank, Or}
 use Rattle.book.specs.declared.lines.LineKind.{LineKind}
 use Rattle.book.specs.declared.lines.LineKind.the-variants.{Capacities, Job, Pairing, Trailer}
@@ -38,6 +42,11 @@ pub record IsBook (z : Sizes) (bs : List ℕ) (p : Project) : Type 0 where
 -- reading accepts a book with the project p exactly when it is the book of p
 abbrev pub Accepts : Type 0
 Accepts = (z : Sizes) (bs : List ℕ) (p : Project) → (reading z bs ≡ Ok p) ↔ IsBook z bs p
+
+-- the call answered with the project p: r is its head, and the tables hold its records
+pub record Gave (r : Result Head Refusal) (acts : List Activity) (ps : List Pair) (p : Project) : Type 0 where
+  pub head : r ≡ Ok (head-of p)
+  pub tables : project-of (head-of p) acts ps ≡ p
 
 -- What is wrong with a book.
 

@@ -1,16 +1,20 @@
 // Reading a book into lent tables, line by line.
 ghost use mathlib.Core.Bool.{cond, false, _&&_};
+ghost use mathlib.Core.List.{List, []};
+ghost use mathlib.Core.Logic.{_↔_};
 ghost use mathlib.Core.Path.{_≡_};
-ghost use Prim.Native.Nat.{_-_, _≤_};
+ghost use Prim.Native.Nat.{ℕ, _-_, _≤_};
 ghost use lib.ListN.{length, getD, take, drop, replicate};
 ghost use Rattle.std.specs.declared.option.Option.the-variants.{Some, None};
 ghost use Rattle.std.specs.declared.result.Result.the-variants.{Ok, Err};
-ghost use Rattle.project.specs.Project.{within, activity-fits, proper, isBlank, most-resources, most-capacity};
+ghost use Rattle.project.specs.Project.{Project, within, activity-fits, proper, isBlank, most-resources, most-capacity};
 ghost use Rattle.project.specs.Refusals.{refused, answer};
 ghost use Rattle.std.specs.Holes.{between};
 ghost use Rattle.std.specs.shelf.Lists.{ending};
+ghost use Rattle.book.specs.Accepted.{IsBook, Gave, Unread, Framed};
 ghost use Rattle.book.specs.Lines.{formed};
 ghost use Rattle.book.specs.Reading.{judged, sizes, resources-of, not-lf, trailed, trailer, reading, head-answer, activities-after, pairs-after};
+ghost use Rattle.book.specs.Written.{written};
 ghost use Rattle.book.specs.Steps.{activity-in, pair-in, activity-judged, pair-judged, opening, placed, Ready, activity-more, pair-more, Put, Took, Kept, KeptSofar, sofar-of, content-in, trailer-told, closing, resources-known, Reads};
 use crate::lines::Line;
 use crate::lines::LineKind;
@@ -323,6 +327,9 @@ pub fn read(book: &[u8], activities: &mut [Activity], pairs: &mut [Pair]) -> Res
     ensures value { λ r. ⌜ answer r ≡ head-answer (reading (sizes (now (activities .entry)) (now (pairs .entry))) (now (book .entry))) ⌝ }
     ensures activities { λ r. ⌜ now (activities .exit) ≡ activities-after (reading (sizes (now (activities .entry)) (now (pairs .entry))) (now (book .entry))) (now (activities .entry)) ⌝ }
     ensures pairs { λ r. ⌜ now (pairs .exit) ≡ pairs-after (reading (sizes (now (activities .entry)) (now (pairs .entry))) (now (book .entry))) (now (pairs .entry)) ⌝ }
+    ensures accepts { λ r. ⌜ ((p : Project) → Gave r (now (activities .exit)) (now (pairs .exit)) p ↔ IsBook (sizes (now (activities .entry)) (now (pairs .entry))) (now (book .entry)) p) ⌝ }
+    ensures refuses { λ r. ⌜ ((n at : ℕ) → (answer r ≡ Err (refused n at)) ↔ Unread (sizes (now (activities .entry)) (now (pairs .entry))) (now (book .entry)) n at) ⌝ }
+    ensures written { λ r. ⌜ ((p : Project) → Gave r (now (activities .exit)) (now (pairs .exit)) p → (ls : List (List ℕ)) (count : ℕ) → Framed (now (book .entry)) [] ls count → written 0 p ≡ now (book .entry)) ⌝ }
 {
     let answer = read_project(book, activities, pairs);
     if answer.is_err() {

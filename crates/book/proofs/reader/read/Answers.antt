@@ -1,8 +1,36 @@
-use mathlib.Core.Path.{refl, _∙_}
-use Rattle.book.proofs.Looping.{refusal}
+use mathlib.Core.Path.{_∙_}
+use Rattle.book.proofs.Answering.{accepts-call, refuses-call, written-call}
+use Rattle.book.proofs.Looping.{refusal, acceptance}
 use Rattle.book.proofs.reader.read.Needs as need
 
 pub returns-then-is-err : need.returns-then-is-err
 returns-then-is-err c =
+    let bs = c .args .book .now in
+    let acts = c .args .activities .now in
+    let ps = c .args .pairs .now in
     let h = refusal _ _ _ _ _ _ (c .read-project-answer .ensures) (c .if-is-err .ensures tt .value) (c .read-project-answer .kept .activities) (c .read-project-answer .kept .pairs) in
-    record { value = h .0; activities = c .blank .ensures ∙ h .1; pairs = c .blank-then-is-err .ensures ∙ h .2 }
+    let a = c .blank .ensures ∙ h .1 in
+    let b = c .blank-then-is-err .ensures ∙ h .2 in
+    record {
+      value = h .0;
+      activities = a;
+      pairs = b;
+      accepts = accepts-call bs acts ps _ _ _ (h .0) a b;
+      refuses = refuses-call bs acts ps _ _ _ (h .0) a b;
+      written = written-call bs acts ps _ _ _ (h .0) a b;
+    }
+
+pub returns-else-is-err : need.returns-else-is-err
+returns-else-is-err c =
+    let bs = c .args .book .now in
+    let acts = c .args .activities .now in
+    let ps = c .args .pairs .now in
+    let h = acceptance _ _ _ _ _ _ (c .read-project-answer .ensures) (c .if-is-err .ensures tt .value) in
+    record {
+      value = h .0;
+      activities = h .1;
+      pairs = h .2;
+      accepts = accepts-call bs acts ps _ _ _ (h .0) (h .1) (h .2);
+      refuses = refuses-call bs acts ps _ _ _ (h .0) (h .1) (h .2);
+      written = written-call bs acts ps _ _ _ (h .0) (h .1) (h .2);
+    }

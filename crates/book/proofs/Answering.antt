@@ -1,0 +1,59 @@
+-- What the format says of a book, said of the answer of a call. Assumes nothing.
+use mathlib.Core.Path.{_≡_, refl, sym, ap, subst, _∙_}
+use mathlib.Core.List.{List, []}
+use mathlib.Core.Logic.{_↔_}
+use Prim.Native.Nat.{ℕ}
+use native.Mathlib.Omega.{arith}
+use Rattle.std.specs.declared.result.Result.{Result}
+use Rattle.std.specs.declared.result.Result.the-variants.{Ok, Err}
+use Rattle.project.specs.Project.{Project, project-of, head-of}
+use Rattle.project.specs.Refusals.{Refused, refused, answer}
+use Rattle.project.specs.declared.refusal.Refusal.{Refusal}
+use Rattle.project.specs.declared.tables.Activity.{Activity}
+use Rattle.project.specs.declared.tables.Head.{Head}
+use Rattle.project.specs.declared.tables.Pair.{Pair}
+use Rattle.book.specs.Accepted.{IsBook, Gave, Unread, Framed}
+use Rattle.book.specs.Reading.{reading, sizes, head-answer, activities-after, pairs-after}
+use Rattle.book.specs.Written.{written}
+use Rattle.book.proofs.Acceptance.{accepts}
+use Rattle.book.proofs.Looping.{held}
+use Rattle.book.proofs.Refusing.{refuses, writes-back}
+use Rattle.book.proofs.Taking.{answer-ok}
+
+module _ (bs : List ℕ) (acts : List Activity) (ps : List Pair) (r : Result Head Refusal) (acts′ : List Activity) (ps′ : List Pair) (value : answer r ≡ head-answer (reading (sizes acts ps) bs)) (acts-are : acts′ ≡ activities-after (reading (sizes acts ps) bs) acts) (pairs-are : ps′ ≡ pairs-after (reading (sizes acts ps) bs) ps) where
+  gave-read : (p : Project) → Gave r acts′ ps′ p → reading (sizes acts ps) bs ≡ Ok p
+  gave-read p g = go (reading (sizes acts ps) bs) value acts-are pairs-are
+    where
+      go : (o : Result Project Refused) → answer r ≡ head-answer o → acts′ ≡ activities-after o acts → ps′ ≡ pairs-after o ps → o ≡ Ok p
+      go (Ok q) v a b =
+          let same : head-of q ≡ head-of p = cc (v, ap answer (g .head)) in
+          ap Ok (sym (held q acts′ ps′ acts ps a b) ∙ ap (λ h. project-of h acts′ ps′) same ∙ g .tables)
+      go (Err e) v a b = let z : _≡_ {A = ℕ} 0 1 = cc (v, ap answer (g .head)) in absurd (omega arith)
+
+  read-gave : (p : Project) → reading (sizes acts ps) bs ≡ Ok p → Gave r acts′ ps′ p
+  read-gave p e = record {
+        head = answer-ok r (head-of p) (value ∙ ap head-answer e);
+        tables = held p acts′ ps′ acts ps (acts-are ∙ ap (λ o. activities-after o acts) e) (pairs-are ∙ ap (λ o. pairs-after o ps) e);
+      }
+
+  pub accepts-call : (p : Project) → Gave r acts′ ps′ p ↔ IsBook (sizes acts ps) bs p
+  accepts-call p = (
+        λ g. accepts (sizes acts ps) bs p .0 (gave-read p g),
+        λ b. read-gave p (accepts (sizes acts ps) bs p .1 b),
+      )
+
+  refused-read : (x : Refused) → answer r ≡ Err x → reading (sizes acts ps) bs ≡ Err x
+  refused-read x e = go (reading (sizes acts ps) bs) value
+    where
+      go : (o : Result Project Refused) → answer r ≡ head-answer o → o ≡ Err x
+      go (Ok q) v = let z : _≡_ {A = ℕ} 0 1 = cc in absurd (omega arith)
+      go (Err y) v = let same : y ≡ x = cc in ap Err same
+
+  pub refuses-call : (n at : ℕ) → (answer r ≡ Err (refused n at)) ↔ Unread (sizes acts ps) bs n at
+  refuses-call n at = (
+        λ e. refuses (sizes acts ps) bs n at .0 (refused-read (refused n at) e),
+        λ u. value ∙ ap head-answer (refuses (sizes acts ps) bs n at .1 u),
+      )
+
+  pub written-call : (p : Project) → Gave r acts′ ps′ p → (ls : List (List ℕ)) (count : ℕ) → Framed bs [] ls count → written 0 p ≡ bs
+  written-call p g ls count f = writes-back (sizes acts ps) bs p ls count (gave-read p g) f

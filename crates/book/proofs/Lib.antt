@@ -1,6 +1,6 @@
 pub mod Acceptance
-pub mod Answering
 pub mod Adding
+pub mod Answering
 pub mod Bodies
 pub mod Cutting
 pub mod Digits
@@ -13,3 +13,5 @@ pub mod Reaching
 pub mod Refusing
 pub mod Spelling
 pub mod Taking
+pub mod TextLines
+pub mod Writing

@@ -1,0 +1,147 @@
+-- The lines of a project's text, by their places, and the text that they make. Assumes nothing.
+use mathlib.Core.Path.{_≡_, refl, sym, ap, _∙_}
+use mathlib.Core.Bool.{true}
+use mathlib.Core.List.{List, [], _∷_, _++_, map}
+use Prim.Native.Nat.{ℕ, _+_, _-_, _≤_, _<_}
+use native.Mathlib.Omega.{arith}
+use lib.ListN.{length, getD, take}
+use Rattle.std.specs.Joined.{joined}
+use Rattle.std.specs.declared.result.Result.the-variants.{Ok, Err}
+use Rattle.std.proofs.shelf.Lists.{length-append, length-push, length-map, length-take-le, getD-append-left, getD-append-right, getD-at, getD-map, getD-take, take-all}
+use Rattle.std.proofs.shelf.Tests.{le-leb, lt-leb, cond-true, cond-false}
+use Rattle.project.specs.Project.{Project, project-of, sound}
+use Rattle.project.specs.Refusals.{refused}
+use Rattle.project.specs.declared.tables.Activity.{Activity}
+use Rattle.project.specs.declared.tables.Head.{Head}
+use Rattle.project.specs.declared.tables.Pair.{Pair}
+use Rattle.book.specs.Lines.{Content, line}
+use Rattle.book.specs.Puts.{PutAt, Writable, all-lines, line-at, whole-text}
+use Rattle.book.specs.Written.{activity-line, capacities-line, pair-line, trailer-line, body, written, writing, bytes-after}
+use Rattle.book.proofs.Writing.{joined-one, pieces-more, piece-room, piece-more, put-same, put-all}
+
+-- an element of a list that is made of one, some, some more and a last one
+module _ {X : Type 0} (x : X) (xs qs : List X) (t d : X) (i : ℕ) where
+  among-first : 1 ≤ i → i < 1 + length xs → getD ((x ∷ (xs ++ qs)) ++ t ∷ []) i d ≡ getD xs (i - 1) d
+  among-first low high =
+      let n = length-append xs qs in
+      getD-append-right (x ∷ []) ((xs ++ qs) ++ t ∷ []) 1 i d refl low ∙ getD-append-left (xs ++ qs) (t ∷ []) d (i - 1) (omega arith) ∙ getD-append-left xs qs d (i - 1) (omega arith)
+
+  among-second : (m : ℕ) → m ≡ 1 + length xs → m ≤ i → i < m + length qs → getD ((x ∷ (xs ++ qs)) ++ t ∷ []) i d ≡ getD qs (i - m) d
+  among-second m is low high =
+      let n = length-append xs qs in
+      getD-append-left (x ∷ (xs ++ qs)) (t ∷ []) d i (omega arith) ∙ getD-append-right (x ∷ xs) qs m i d (omega arith) low
+
+  the-last : length xs + length qs + 1 ≡ i → getD ((x ∷ (xs ++ qs)) ++ t ∷ []) i d ≡ t
+  the-last is =
+      let n = length-append xs qs in
+      getD-at (x ∷ (xs ++ qs)) t [] d i (omega arith)
+
+module _ (h : Head) (acts : List Activity) (ps : List Pair) (w : Writable h acts ps) where
+  activity-lines : length (map (activity-line (h .resources)) (take (h .activities) acts)) ≡ h .activities
+  activity-lines = length-map (take (h .activities) acts) (activity-line (h .resources)) ∙ length-take-le (h .activities) acts (w .activities)
+
+  pair-lines : length (map pair-line (take (h .pairs) ps)) ≡ h .pairs
+  pair-lines = length-map (take (h .pairs) ps) pair-line ∙ length-take-le (h .pairs) ps (w .pairs)
+
+  body-length : length (body (project-of h acts ps)) ≡ 1 + h .activities + h .pairs
+  body-length =
+      let a = activity-lines in
+      let b = pair-lines in
+      let n = length-append (map (activity-line (h .resources)) (take (h .activities) acts)) (map pair-line (take (h .pairs) ps)) in
+      omega arith
+
+  pub line-count : length (all-lines (project-of h acts ps)) ≡ h .activities + h .pairs + 2
+  unfolding all-lines
+  line-count =
+      let b = body-length in
+      let n = length-push (body (project-of h acts ps)) (trailer-line 0 (length (body (project-of h acts ps)))) in
+      omega arith
+
+  pub line-first : (i : ℕ) → i ≡ 0 → capacities-line (project-of h acts ps) ≡ line-at (project-of h acts ps) i
+  unfolding all-lines line-at
+  line-first i is = ap (λ n. getD (all-lines (project-of h acts ps)) n (capacities-line (project-of h acts ps))) (sym is)
+
+  pub line-activity : (i : ℕ) (d : Activity) → (i ≡ 0 → ⊥) → i < 1 + h .activities → activity-line (h .resources) (getD acts (i - 1) d) ≡ line-at (project-of h acts ps) i
+  unfolding all-lines line-at
+  line-activity i d low high =
+      let f = activity-line (h .resources) in
+      let n = length-take-le (h .activities) acts (w .activities) in
+      let m = activity-lines in
+      sym (among-first _ (map f (take (h .activities) acts)) (map pair-line (take (h .pairs) ps)) _ _ i (omega arith) (omega arith) ∙ getD-map f (take (h .activities) acts) (i - 1) d _ (omega arith) ∙ ap f (getD-take (h .activities) acts (i - 1) d (omega arith)))
+
+  pub line-pair : (i : ℕ) (d : Pair) → 1 + h .activities ≤ i → i < 1 + h .activities + h .pairs → pair-line (getD ps (i - (1 + h .activities)) d) ≡ line-at (project-of h acts ps) i
+  unfolding all-lines line-at
+  line-pair i d low high =
+      let j = i - (1 + h .activities) in
+      let n = length-take-le (h .pairs) ps (w .pairs) in
+      let m = activity-lines in
+      let k = pair-lines in
+      sym (among-second _ (map (activity-line (h .resources)) (take (h .activities) acts)) (map pair-line (take (h .pairs) ps)) _ _ i (1 + h .activities) (omega arith) low (omega arith) ∙ getD-map pair-line (take (h .pairs) ps) j d _ (omega arith) ∙ ap pair-line (getD-take (h .pairs) ps j d (omega arith)))
+
+  pub line-last : (i : ℕ) → 1 + h .activities + h .pairs ≤ i → i < h .activities + h .pairs + 2 → trailer-line 0 (1 + h .activities + h .pairs) ≡ line-at (project-of h acts ps) i
+  unfolding all-lines line-at
+  line-last i low high =
+      let m = activity-lines in
+      let k = pair-lines in
+      ap (trailer-line 0) (sym body-length) ∙ sym (the-last _ (map (activity-line (h .resources)) (take (h .activities) acts)) (map pair-line (take (h .pairs) ps)) _ _ i (omega arith))
+
+  -- Line after line: x is the one at i.
+  module _ (i : ℕ) (lt : i < h .activities + h .pairs + 2) (x : Content) (is : x ≡ line-at (project-of h acts ps) i) where
+    pub length-more : (n m : ℕ) → n ≡ length (joined line (take i (all-lines (project-of h acts ps)))) → m ≡ length (line x) → n + m ≡ length (joined line (take (i + 1) (all-lines (project-of h acts ps))))
+    unfolding line-at
+    length-more n m a b =
+        let ls = all-lines (project-of h acts ps) in
+        let d = capacities-line (project-of h acts ps) in
+        let c = line-count in
+        let e = ap length (pieces-more line ls i d (omega arith)) ∙ length-append (joined line (take i ls)) (line (getD ls i d)) in
+        let f = b ∙ ap (λ y. length (line y)) is in
+        omega arith
+
+    module _ {was out : List ℕ} {at : ℕ} (room : length (whole-text (project-of h acts ps)) ≤ length was) (p : PutAt was out 0 at (joined line (take i (all-lines (project-of h acts ps))))) where
+      pub line-room : at + length (line x) ≤ length was
+      unfolding line-at whole-text
+      line-room =
+          let c = line-count in
+          let r = piece-room line (all-lines (project-of h acts ps)) i (capacities-line (project-of h acts ps)) (omega arith) (omega arith) p in
+          let f = ap (λ y. length (line y)) is in
+          omega arith
+
+      pub line-more : {left : List ℕ} {end : ℕ} → PutAt out left at end (line x) → PutAt was left 0 end (joined line (take (i + 1) (all-lines (project-of h acts ps))))
+      unfolding line-at whole-text
+      line-more q =
+          let c = line-count in
+          piece-more line (all-lines (project-of h acts ps)) i (capacities-line (project-of h acts ps)) (omega arith) (omega arith) p (put-same refl refl (ap line is) q)
+
+  pub lines-all : (i : ℕ) → h .activities + h .pairs + 2 ≤ i → joined line (take i (all-lines (project-of h acts ps))) ≡ whole-text (project-of h acts ps)
+  unfolding whole-text
+  lines-all i le =
+      let c = line-count in
+      ap (joined line) (take-all i (all-lines (project-of h acts ps)) (omega arith))
+
+pub text-written : (p : Project) → whole-text p ≡ written 0 p
+unfolding whole-text all-lines
+text-written p = joined-one line (body p) (trailer-line 0 (length (body p)))
+
+-- What writing answers and leaves, where the rules are kept.
+module _ (h : Head) (acts : List Activity) (ps : List Pair) (out : List ℕ) (kept : true ≡ sound h acts ps) where
+  same-length : length (whole-text (project-of h acts ps)) ≡ length (written 0 (project-of h acts ps))
+  same-length = ap length (text-written (project-of h acts ps))
+
+  short : length out < length (whole-text (project-of h acts ps)) → writing h acts ps out ≡ Err (refused 9 0)
+  short lt =
+      let n = same-length in
+      cond-true _ _ _ (sym kept) ∙ cond-false _ _ _ (lt-leb (length (written 0 (project-of h acts ps))) (length out) (omega arith))
+
+  long : length (whole-text (project-of h acts ps)) ≤ length out → writing h acts ps out ≡ Ok (length (written 0 (project-of h acts ps)))
+  long le =
+      let n = same-length in
+      cond-true _ _ _ (sym kept) ∙ cond-true _ _ _ (le-leb (length (written 0 (project-of h acts ps))) (length out) (omega arith))
+
+  pub not-written : length out < length (whole-text (project-of h acts ps)) → (Err (refused 9 0) ≡ writing h acts ps out) × (out ≡ bytes-after (writing h acts ps out) (written 0 (project-of h acts ps)) out)
+  not-written lt =
+      (sym (short lt), ap (λ r. bytes-after r (written 0 (project-of h acts ps)) out) (sym (short lt)))
+
+  pub all-written : {left : List ℕ} {n : ℕ} → length (whole-text (project-of h acts ps)) ≤ length out → PutAt out left 0 n (whole-text (project-of h acts ps)) → (Ok n ≡ writing h acts ps out) × (left ≡ bytes-after (writing h acts ps out) (written 0 (project-of h acts ps)) out)
+  all-written {left} {n} le p =
+      let q = put-all (put-same refl refl (text-written (project-of h acts ps)) p) in
+      (ap Ok (q .0) ∙ sym (long le), q .1 ∙ ap (λ r. bytes-after r (written 0 (project-of h acts ps)) out) (sym (long le)))

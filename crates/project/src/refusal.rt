@@ -5,6 +5,8 @@ ghost use lib.Chars.{codes};
 ghost use Rattle.std.specs.Written.{decimal};
 ghost use Rattle.std.specs.declared.option.Option.the-variants.{Some};
 ghost use Rattle.project.specs.Refusals.{number, place};
+ghost use Rattle.project.specs.declared.refusal.Refusal.the-variants.{NoMemory};
+use std::alloc::AllocError;
 use std::fmt;
 
 #[derive(Clone, Copy, Debug, PartialEq, Eq)]
@@ -62,6 +64,14 @@ impl Refusal {
             Refusal::WrongCount(place) => place,
             _ => 0,
         }
+    }
+}
+
+pub impl From<AllocError> for Refusal as RefusalFromAlloc {
+    ghost converts = { λ _ r. r ≡ NoMemory };
+
+    fn from(_e: AllocError) -> Refusal {
+        Refusal::NoMemory
     }
 }
 

@@ -1,0 +1,28 @@
+use mathlib.Core.Path.{refl, sym, ap, _∙_}
+use mathlib.Core.Logic.{inl, inr}
+use lib.ListN.{take}
+use Rattle.std.specs.declared.result.Result.the-variants.{Ok}
+use Rattle.std.proofs.shelf.Lists.{refilled-is}
+use Rattle.std.proofs.shelf.Results.{err-from-errBy}
+use Rattle.planner.proofs.Rewriting.{no-text, all-text}
+use Rattle.planner.proofs.respond.Needs as need
+
+pub returns-in-Break-pairs : need.returns-in-Break-pairs
+returns-in-Break-pairs c =
+    let p = err-from-errBy (c .from-residual-in-Break-pairs .result) (c .from-residual-in-Break-pairs .ensures .1) in
+    rw (p .1) (inl (p .2))
+
+pub returns-in-Break-out : need.returns-in-Break-out
+returns-in-Break-out c =
+    let p = err-from-errBy (c .from-residual-in-Break-out .result) (c .from-residual-in-Break-out .ensures .1) in
+    rw (p .1) (inl (p .2))
+
+pub returns-in-Break-length : need.returns-in-Break-length
+returns-in-Break-length c =
+    let p = err-from-errBy (c .from-residual-in-Break-length .result) (c .from-residual-in-Break-length .ensures .1) in
+    rw (p .1, p .2) (inr (no-text _ _ _ _ (c .in-Break-length .ensures tt)))
+
+pub returns : need.returns
+returns c =
+    let same = refilled-is (c .in-Continue-out .out) (c .rewrite .last .out) (c .rewrite .kept .out ∙ c .deref-mut-3 .ensures .len) in
+    all-text _ _ _ _ (c .in-Continue-length .ensures tt) ∙ ap Ok (sym (c .truncate .ensures .items ∙ ap (take (c .in-Continue-length .length)) same))

@@ -18,12 +18,13 @@ fn read_all<R: Read + Drop>(rt: &LibcRuntime, source: R) -> io::Result<Vec<u8>> 
     Ok(text)
 }
 
+// The book from the one file that is named, or from standard input.
 fn read_input(rt: &LibcRuntime) -> Result<Vec<u8>, AnyError> {
     let mut args = env::args(rt)?;
     let _program = args.next();
     let named = args.next();
     if args.next().is_some() {
-        return Err("give one file, or none to read standard input".into());
+        return Err("name one book, or none to read standard input".into());
     }
     match named {
         Some(name) => Ok(read_all(rt, fs::open(rt, name.as_str())?)?),
@@ -32,7 +33,13 @@ fn read_input(rt: &LibcRuntime) -> Result<Vec<u8>, AnyError> {
 }
 
 fn main(rt: LibcRuntime) -> Result<(), AnyError> {
-    let text = rt.report(read_input(&rt))?;
+    let text = match read_input(&rt) {
+        Ok(text) => text,
+        Err(error) => {
+            eprintln!(rt, "tulykesz: cannot read the book: {error}")?;
+            return Err(error);
+        }
+    };
     match planner::respond(rt.alloc(), &text) {
         Ok(answer) => Ok(rt.stdout().write_all(&answer)?),
         Err(refusal) => {

@@ -4,21 +4,27 @@ use mathlib.Core.List.{List, []}
 use mathlib.Core.Logic.{_↔_}
 use Prim.Native.Nat.{ℕ}
 use native.Mathlib.Omega.{arith}
+use lib.ListN.{length, take}
 use Rattle.std.specs.declared.result.Result.{Result}
 use Rattle.std.specs.declared.result.Result.the-variants.{Ok, Err}
-use Rattle.project.specs.Project.{Project, project-of, head-of}
+use Rattle.std.proofs.shelf.Lists.{take-at}
+use Rattle.project.specs.Project.{Project, project-of, head-of, Shaped, Rules}
 use Rattle.project.specs.Refusals.{Refused, refused, answer}
 use Rattle.project.specs.declared.refusal.Refusal.{Refusal}
 use Rattle.project.specs.declared.tables.Activity.{Activity}
 use Rattle.project.specs.declared.tables.Head.{Head}
 use Rattle.project.specs.declared.tables.Pair.{Pair}
-use Rattle.book.specs.Accepted.{IsBook, Gave, Unread, Framed}
+use Rattle.book.specs.Accepted.{IsBook, Gave, Unread, Framed, ReadsBack}
+use Rattle.book.specs.Puts.{PutAt, whole-text}
 use Rattle.book.specs.Reading.{reading, sizes, head-answer, activities-after, pairs-after}
 use Rattle.book.specs.Written.{written}
-use Rattle.book.proofs.Acceptance.{accepts}
+use Rattle.book.proofs.Acceptance.{accepts, reads-back}
+use Rattle.book.proofs.Bodies.{err-ok}
 use Rattle.book.proofs.Looping.{held}
 use Rattle.book.proofs.Refusing.{refuses, writes-back}
 use Rattle.book.proofs.Taking.{answer-ok}
+use Rattle.book.proofs.TextLines.{text-written}
+use Rattle.book.proofs.Writing.{put-same, put-all}
 
 module _ (bs : List ℕ) (acts : List Activity) (ps : List Pair) (r : Result Head Refusal) (acts′ : List Activity) (ps′ : List Pair) (value : answer r ≡ head-answer (reading (sizes acts ps) bs)) (acts-are : acts′ ≡ activities-after (reading (sizes acts ps) bs) acts) (pairs-are : ps′ ≡ pairs-after (reading (sizes acts ps) bs) ps) where
   gave-read : (p : Project) → Gave r acts′ ps′ p → reading (sizes acts ps) bs ≡ Ok p
@@ -32,15 +38,15 @@ module _ (bs : List ℕ) (acts : List Activity) (ps : List Pair) (r : Result Hea
 
   read-gave : (p : Project) → reading (sizes acts ps) bs ≡ Ok p → Gave r acts′ ps′ p
   read-gave p e = record {
-        head = answer-ok r (head-of p) (value ∙ ap head-answer e);
-        tables = held p acts′ ps′ acts ps (acts-are ∙ ap (λ o. activities-after o acts) e) (pairs-are ∙ ap (λ o. pairs-after o ps) e);
-      }
+    head = answer-ok r (head-of p) (value ∙ ap head-answer e);
+    tables = held p acts′ ps′ acts ps (acts-are ∙ ap (λ o. activities-after o acts) e) (pairs-are ∙ ap (λ o. pairs-after o ps) e);
+  }
 
   pub accepts-call : (p : Project) → Gave r acts′ ps′ p ↔ IsBook (sizes acts ps) bs p
   accepts-call p = (
-        λ g. accepts (sizes acts ps) bs p .0 (gave-read p g),
-        λ b. read-gave p (accepts (sizes acts ps) bs p .1 b),
-      )
+    λ g. accepts (sizes acts ps) bs p .0 (gave-read p g),
+    λ b. read-gave p (accepts (sizes acts ps) bs p .1 b),
+  )
 
   refused-read : (x : Refused) → answer r ≡ Err x → reading (sizes acts ps) bs ≡ Err x
   refused-read x e = go (reading (sizes acts ps) bs) value
@@ -51,9 +57,20 @@ module _ (bs : List ℕ) (acts : List Activity) (ps : List Pair) (r : Result Hea
 
   pub refuses-call : (n at : ℕ) → (answer r ≡ Err (refused n at)) ↔ Unread (sizes acts ps) bs n at
   refuses-call n at = (
-        λ e. refuses (sizes acts ps) bs n at .0 (refused-read (refused n at) e),
-        λ u. value ∙ ap head-answer (refuses (sizes acts ps) bs n at .1 u),
-      )
+    λ e. refuses (sizes acts ps) bs n at .0 (refused-read (refused n at) e),
+    λ u. value ∙ ap head-answer (refuses (sizes acts ps) bs n at .1 u),
+  )
 
   pub written-call : (p : Project) → Gave r acts′ ps′ p → (ls : List (List ℕ)) (count : ℕ) → Framed bs [] ls count → written 0 p ≡ bs
   written-call p g ls count f = writes-back (sizes acts ps) bs p ls count (gave-read p g) f
+
+-- What a call that writes leaves, read again.
+
+pub refused-back : (p : Project) (e : Refusal) (out : List ℕ) → ReadsBack p (Err e) out
+refused-back p e out n z is a q = absurd (err-ok is)
+
+pub read-back : (p : Project) → Shaped p → Rules p → {out left : List ℕ} {end : ℕ} → PutAt out left 0 end (whole-text p) → ReadsBack p (Ok end) left
+read-back p shaped rules {out} {left} {end} put n z is a q =
+    let w = put-all (put-same refl refl (text-written p) put) in
+    let same : length (written 0 p) ≡ n = cc (w .0) in
+    ap (reading z) (ap (take n) (w .1) ∙ take-at (written 0 p) _ n same) ∙ reads-back z p shaped rules a q

@@ -187,5 +187,9 @@ Refuses = (z : Sizes) (bs : List ℕ) (n at : ℕ) → (reading z bs ≡ Err (re
 abbrev pub Reads-back : Type 0
 Reads-back = (z : Sizes) (p : Project) → Shaped p → Rules p → length (p .activities) ≤ z .activities → length (p .pairs) ≤ z .pairs → reading z (written 0 p) ≡ Ok p
 
+-- what a call wrote, n bytes of `out`, reads back as the project p, into any tables that are long enough
+abbrev pub ReadsBack : Project → Result ℕ Refusal → List ℕ → Type 0
+ReadsBack p r out = (n : ℕ) (z : Sizes) → r ≡ Ok n → length (p .activities) ≤ z .activities → length (p .pairs) ≤ z .pairs → reading z (take n out) ≡ Ok p
+
 abbrev pub Writes-back : Type 0
 Writes-back = (z : Sizes) (bs : List ℕ) (p : Project) (ls : List (List ℕ)) (count : ℕ) → reading z bs ≡ Ok p → Framed bs [] ls count → written 0 p ≡ bs

@@ -3,6 +3,7 @@ mod lines;
 mod reader;
 mod words;
 mod writer;
+
 pub use reader::MOST_BYTES;
 pub use reader::read;
 pub use writer::write;

@@ -7,6 +7,7 @@ ghost use Rattle.std.specs.Joined.{joined};
 ghost use Rattle.std.specs.Written.{decimal};
 ghost use Rattle.project.specs.Project.{project-of};
 ghost use Rattle.project.specs.Refusals.{answer};
+ghost use Rattle.book.specs.Accepted.{ReadsBack};
 ghost use Rattle.book.specs.Lines.{letter, spaced};
 ghost use Rattle.book.specs.Puts.{PutAt, Writable, line-text, line-at, whole-text};
 ghost use Rattle.book.specs.Steps.{content-in};
@@ -235,6 +236,7 @@ pub fn write(
 ) -> Result<usize, Refusal>
     ensures value { λ r. ⌜ answer r ≡ writing (now (head .entry)) (now (activities .entry)) (now (pairs .entry)) (now (out .entry)) ⌝ }
     ensures after { λ r. ⌜ now (out .exit) ≡ bytes-after (writing (now (head .entry)) (now (activities .entry)) (now (pairs .entry)) (now (out .entry))) (written 0 (project-of (now (head .entry)) (now (activities .entry)) (now (pairs .entry)))) (now (out .entry)) ⌝ }
+    ensures read { λ r. ⌜ ReadsBack (project-of (now (head .entry)) (now (activities .entry)) (now (pairs .entry))) r (now (out .exit)) ⌝ }
 {
     if !keeps_rules(head, activities, pairs) {
         return Err(Refusal::RulesBroken);

@@ -1,11 +1,12 @@
 -- What one turn of each loop of the rules tells. Assumes nothing.
-use mathlib.Core.Path.{_≡_, refl, sym, ap, _∙_}
+use mathlib.Core.Path.{_≡_, refl, sym, ap, subst, _∙_}
 use mathlib.Core.Bool.{Bool, true, false, _&&_, _||_, cond}
 use mathlib.Core.List.{List, []}
 use Prim.Native.Nat.{ℕ, _+_, _-_, _<_}
 use native.Mathlib.Omega.{arith}
 use lib.Dec.{leb, ltb}
 use lib.ListN.{length, getD, take, drop}
+use Rattle.std.specs.shelf.Lists.{All}
 use Rattle.std.proofs.shelf.Lists.{take-more, drop-more}
 use Rattle.std.proofs.shelf.Sums.{countBy-more-yes, countBy-more-no}
 use Rattle.std.proofs.shelf.Tests.{and-from, and-left, and-right, or-left}
@@ -14,7 +15,7 @@ use Rattle.project.specs.declared.tables.Activity.{Activity}
 use Rattle.project.specs.declared.tables.Head.{Head}
 use Rattle.project.specs.declared.tables.Kind.the-variants.{Blank, Or}
 use Rattle.project.specs.declared.tables.Pair.{Pair}
-use Rattle.project.specs.Project.{most-capacity, capacities-fit, within, activity-fits, activities-fit, or-into, or-predecessors, same-pair, among, proper, follows, pairs-fit, head-fits, sound}
+use Rattle.project.specs.Project.{most-resources, most-capacity, project-of, Shaped, capacities-fit, within, activity-fits, activities-fit, or-into, or-predecessors, same-pair, among, proper, follows, pairs-fit, head-fits, sound}
 use Rattle.project.proofs.Same.{same-fields, unlike-fields, into-yes, into-other, into-no}
 
 -- r is the test of a list, x that of the next element and y that of the elements after it
@@ -82,6 +83,12 @@ module _ (n : ℕ) (ps : List Pair) (q : ℕ) (lt : q < length ps) (so : pairs-f
         goes-on _ _ _ pairs-next (and-from _ _ (sym p) (ap (λ k. follows (take k ps) (getD ps q blank)) (sym same) ∙ sym e))
 
 module _ (h : Head) (acts : List Activity) (ps : List Pair) where
+  pub shaped : (a : ℕ) → a ≡ h .activities → length (h .capacities) ≡ most-resources → All (λ b. length (b .demands) ≡ most-resources) (take a acts) → Shaped (project-of h acts ps)
+  shaped a same capacities demands = record {
+    capacities = capacities;
+    demands = subst (λ n. All (λ b. length (b .demands) ≡ most-resources) (take n acts)) same demands;
+  }
+
   pub no-head : false ≡ head-fits h acts ps → false ≡ sound h acts ps
   no-head e = stops _ _ _ refl (sym e)
 

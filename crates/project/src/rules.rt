@@ -1,8 +1,11 @@
 // The rules of a project, tested on a head and two lent tables with any contents.
 ghost use mathlib.Core.Path.{_≡_};
 ghost use mathlib.Core.List.{[]};
+ghost use lib.Dec.{T};
+ghost use lib.ListN.{length};
 ghost use Rattle.std.specs.Orderings.{Decides};
-ghost use Rattle.project.specs.Project.{Sound, sound, head-fits, capacities-fit, activities-fit, activity-fits, within, among, proper, follows, pairs-fit, or-predecessors};
+ghost use Rattle.std.specs.shelf.Lists.{All};
+ghost use Rattle.project.specs.Project.{most-resources, project-of, Shaped, Sound, sound, head-fits, capacities-fit, activities-fit, activity-fits, within, among, proper, follows, pairs-fit, or-predecessors};
 use crate::tables::Activity;
 use crate::tables::ActivityNumber;
 use crate::tables::Head;
@@ -21,6 +24,7 @@ use crate::tables::PairPartialEq;
 pub fn keeps_rules(head: &Head, activities: &[Activity], pairs: &[Pair]) -> bool
     ensures value { λ r. ⌜ r ≡ sound (now (head .entry)) (now (activities .entry)) (now (pairs .entry)) ⌝ }
     ensures decides { λ r. ⌜ Decides r (Sound (now (head .entry)) (now (activities .entry)) (now (pairs .entry))) ⌝ }
+    ensures shaped { λ r. ⌜ (T r → Shaped (project-of (now (head .entry)) (now (activities .entry)) (now (pairs .entry)))) ⌝ }
 {
     if !head_fits(head, activities, pairs) || !capacities_fit(head.resources, &head.capacities) {
         return false;
@@ -66,13 +70,15 @@ fn each_within(numbers: &[u8; MOST_RESOURCES], limits: &[u8; MOST_RESOURCES]) ->
 
 // Whether an activity's duration and demands are within their limits.
 fn activity_fits(activity: &Activity, capacities: &[u8; MOST_RESOURCES]) -> bool
-    ensures { λ r. ⌜ r ≡ activity-fits (now (capacities .entry)) (now (activity .entry)) ⌝ }
+    ensures value { λ r. ⌜ r ≡ activity-fits (now (capacities .entry)) (now (activity .entry)) ⌝ }
+    ensures shaped { λ _. ⌜ length (now (activity .entry) .demands) ≡ most-resources ⌝ }
 {
     activity.duration <= MOST_DURATION && each_within(&activity.demands, capacities)
 }
 
 fn activities_fit(capacities: &[u8; MOST_RESOURCES], activities: &[Activity]) -> bool
-    ensures { λ r. ⌜ r ≡ activities-fit (now (capacities .entry)) (now (activities .entry)) ⌝ }
+    ensures value { λ r. ⌜ r ≡ activities-fit (now (capacities .entry)) (now (activities .entry)) ⌝ }
+    ensures shaped { λ r. ⌜ (T r → All (λ a. length (a .demands) ≡ most-resources) (now (activities .entry))) ⌝ }
 {
     for activity in activities {
         if !activity_fits(activity, capacities) {

@@ -1,11 +1,12 @@
-use mathlib.Core.Path.{_≡_}
+use mathlib.Core.Path.{_≡_, subst}
 use mathlib.Core.Bool.{false}
 use Prim.Native.Nat.{_-_}
 use native.Mathlib.Omega.{arith}
+use lib.Dec.{T}
 use Rattle.std.proofs.shelf.Ways.{decides-at}
 use Rattle.project.specs.Project.{sound}
 use Rattle.project.proofs.Decided.{decides-sound}
-use Rattle.project.proofs.Steps.{no-head, no-capacities, by-activities, by-pairs}
+use Rattle.project.proofs.Steps.{no-head, no-capacities, by-activities, by-pairs, shaped}
 use Rattle.project.proofs.rules.keeps_rules.Needs as need
 use Rattle.project.proofs.rules.keeps_rules.Needs.{then-not-head-fits·by·then-not-head-fits, then-not-head-fits·by·else-not-head-fits·then-not-capacities-fit}
 
@@ -18,20 +19,23 @@ returns-then-not-head-fits c =
     record {
       value = is;
       decides = decides-at _ _ is (decides-sound (c .args .head .now) (c .args .activities .now) (c .args .pairs .now));
+      shaped = λ t. absurd t;
     }
 
 pub returns-then-activities-fit : need.returns-then-activities-fit
 returns-then-activities-fit c =
-    let is = by-pairs (c .args .head .now) (c .args .activities .now) (c .args .pairs .now) (c .if-not-head-fits .ensures tt) (c .if-not-capacities-fit .ensures tt) (c .args .head .now .activities - 0) (c .args .head .now .pairs - 0) (omega arith) (omega arith) (c .pairs-fit .result) (c .if-activities-fit .ensures tt) (c .pairs-fit .ensures) in
+    let is = by-pairs (c .args .head .now) (c .args .activities .now) (c .args .pairs .now) (c .if-not-head-fits .ensures tt) (c .if-not-capacities-fit .ensures tt) (c .args .head .now .activities - 0) (c .args .head .now .pairs - 0) (omega arith) (omega arith) (c .pairs-fit .result) (c .if-activities-fit .ensures tt .value) (c .pairs-fit .ensures) in
     record {
       value = is;
       decides = decides-at _ _ is (decides-sound (c .args .head .now) (c .args .activities .now) (c .args .pairs .now));
+      shaped = λ _. shaped (c .args .head .now) (c .args .activities .now) (c .args .pairs .now) (c .args .head .now .activities - 0) (omega arith) (omega arith) (c .if-activities-fit .ensures tt .shaped tt);
     }
 
 pub returns-else-activities-fit : need.returns-else-activities-fit
 returns-else-activities-fit c =
-    let is = by-activities (c .args .head .now) (c .args .activities .now) (c .args .pairs .now) (c .if-not-head-fits .ensures tt) (c .if-not-capacities-fit .ensures tt) (c .args .head .now .activities - 0) (c .args .head .now .pairs - 0) (omega arith) (omega arith) (c .activities-fit .result) (c .activities-fit .ensures) (c .if-activities-fit .left) in
+    let is = by-activities (c .args .head .now) (c .args .activities .now) (c .args .pairs .now) (c .if-not-head-fits .ensures tt) (c .if-not-capacities-fit .ensures tt) (c .args .head .now .activities - 0) (c .args .head .now .pairs - 0) (omega arith) (omega arith) (c .activities-fit .result) (c .activities-fit .ensures .value) (c .if-activities-fit .left) in
     record {
       value = is;
       decides = decides-at _ _ is (decides-sound (c .args .head .now) (c .args .activities .now) (c .args .pairs .now));
+      shaped = λ t. absurd (subst T (c .if-activities-fit .left) t);
     }

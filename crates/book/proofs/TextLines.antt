@@ -20,21 +20,23 @@ use Rattle.book.specs.Written.{activity-line, capacities-line, pair-line, trai
 use Rattle.book.proofs.Writing.{joined-one, pieces-more, piece-room, piece-more, put-same, put-all}
 
 -- an element of a list that is made of one, some, some more and a last one
-module _ {X : Type 0} (x : X) (xs qs : List X) (t d : X) (i : ℕ) where
-  among-first : 1 ≤ i → i < 1 + length xs → getD ((x ∷ (xs ++ qs)) ++ t ∷ []) i d ≡ getD xs (i - 1) d
-  among-first low high =
-      let n = length-append xs qs in
-      getD-append-right (x ∷ []) ((xs ++ qs) ++ t ∷ []) 1 i d refl low ∙ getD-append-left (xs ++ qs) (t ∷ []) d (i - 1) (omega arith) ∙ getD-append-left xs qs d (i - 1) (omega arith)
+module _ {X : Type 0} (x : X) (xs ys : List X) (t d : X) (i : ℕ) where
+  among-first : (j : ℕ) → j + 1 ≡ i → j < length xs → getD ((x ∷ (xs ++ ys)) ++ t ∷ []) i d ≡ getD xs j d
+  among-first j is lt =
+      let n = length-append xs ys in
+      let m : i - 1 ≡ j = omega arith in
+      getD-append-right (x ∷ []) ((xs ++ ys) ++ t ∷ []) 1 i d refl (omega arith) ∙ ap (λ k. getD ((xs ++ ys) ++ t ∷ []) k d) m ∙ getD-append-left (xs ++ ys) (t ∷ []) d j (omega arith) ∙ getD-append-left xs ys d j lt
 
-  among-second : (m : ℕ) → m ≡ 1 + length xs → m ≤ i → i < m + length qs → getD ((x ∷ (xs ++ qs)) ++ t ∷ []) i d ≡ getD qs (i - m) d
-  among-second m is low high =
-      let n = length-append xs qs in
-      getD-append-left (x ∷ (xs ++ qs)) (t ∷ []) d i (omega arith) ∙ getD-append-right (x ∷ xs) qs m i d (omega arith) low
+  among-second : (j : ℕ) → length xs + j + 1 ≡ i → j < length ys → getD ((x ∷ (xs ++ ys)) ++ t ∷ []) i d ≡ getD ys j d
+  among-second j is lt =
+      let n = length-append xs ys in
+      let m : i - (length xs + 1) ≡ j = omega arith in
+      getD-append-left (x ∷ (xs ++ ys)) (t ∷ []) d i (omega arith) ∙ getD-append-right (x ∷ xs) ys (length xs + 1) i d (omega arith) (omega arith) ∙ ap (λ k. getD ys k d) m
 
-  the-last : length xs + length qs + 1 ≡ i → getD ((x ∷ (xs ++ qs)) ++ t ∷ []) i d ≡ t
+  the-last : length xs + length ys + 1 ≡ i → getD ((x ∷ (xs ++ ys)) ++ t ∷ []) i d ≡ t
   the-last is =
-      let n = length-append xs qs in
-      getD-at (x ∷ (xs ++ qs)) t [] d i (omega arith)
+      let n = length-append xs ys in
+      getD-at (x ∷ (xs ++ ys)) t [] d i (omega arith)
 
 module _ (h : Head) (acts : List Activity) (ps : List Pair) (w : Writable h acts ps) where
   activity-lines : length (map (activity-line (h .resources)) (take (h .activities) acts)) ≡ h .activities
@@ -61,29 +63,28 @@ module _ (h : Head) (acts : List Activity) (ps : List Pair) (w : Writable h acts
   unfolding all-lines line-at
   line-first i is = ap (λ n. getD (all-lines (project-of h acts ps)) n (capacities-line (project-of h acts ps))) (sym is)
 
-  pub line-activity : (i : ℕ) (d : Activity) → (i ≡ 0 → ⊥) → i < 1 + h .activities → activity-line (h .resources) (getD acts (i - 1) d) ≡ line-at (project-of h acts ps) i
+  pub line-activity : (i j : ℕ) (d : Activity) → j + 1 ≡ i → j < h .activities → activity-line (h .resources) (getD acts j d) ≡ line-at (project-of h acts ps) i
   unfolding all-lines line-at
-  line-activity i d low high =
+  line-activity i j d is lt =
       let f = activity-line (h .resources) in
       let n = length-take-le (h .activities) acts (w .activities) in
       let m = activity-lines in
-      sym (among-first _ (map f (take (h .activities) acts)) (map pair-line (take (h .pairs) ps)) _ _ i (omega arith) (omega arith) ∙ getD-map f (take (h .activities) acts) (i - 1) d _ (omega arith) ∙ ap f (getD-take (h .activities) acts (i - 1) d (omega arith)))
+      sym (among-first _ (map f (take (h .activities) acts)) (map pair-line (take (h .pairs) ps)) _ _ i j is (omega arith) ∙ getD-map f (take (h .activities) acts) j d _ (omega arith) ∙ ap f (getD-take (h .activities) acts j d lt))
 
-  pub line-pair : (i : ℕ) (d : Pair) → 1 + h .activities ≤ i → i < 1 + h .activities + h .pairs → pair-line (getD ps (i - (1 + h .activities)) d) ≡ line-at (project-of h acts ps) i
+  pub line-pair : (i j : ℕ) (d : Pair) → h .activities + j + 1 ≡ i → j < h .pairs → pair-line (getD ps j d) ≡ line-at (project-of h acts ps) i
   unfolding all-lines line-at
-  line-pair i d low high =
-      let j = i - (1 + h .activities) in
+  line-pair i j d is lt =
       let n = length-take-le (h .pairs) ps (w .pairs) in
       let m = activity-lines in
       let k = pair-lines in
-      sym (among-second _ (map (activity-line (h .resources)) (take (h .activities) acts)) (map pair-line (take (h .pairs) ps)) _ _ i (1 + h .activities) (omega arith) low (omega arith) ∙ getD-map pair-line (take (h .pairs) ps) j d _ (omega arith) ∙ ap pair-line (getD-take (h .pairs) ps j d (omega arith)))
+      sym (among-second _ (map (activity-line (h .resources)) (take (h .activities) acts)) (map pair-line (take (h .pairs) ps)) _ _ i j (omega arith) (omega arith) ∙ getD-map pair-line (take (h .pairs) ps) j d _ (omega arith) ∙ ap pair-line (getD-take (h .pairs) ps j d lt))
 
-  pub line-last : (i : ℕ) → 1 + h .activities + h .pairs ≤ i → i < h .activities + h .pairs + 2 → trailer-line 0 (1 + h .activities + h .pairs) ≡ line-at (project-of h acts ps) i
+  pub line-last : (i n : ℕ) → n ≡ 1 + h .activities + h .pairs → n ≡ i → trailer-line 0 n ≡ line-at (project-of h acts ps) i
   unfolding all-lines line-at
-  line-last i low high =
+  line-last i n count is =
       let m = activity-lines in
       let k = pair-lines in
-      ap (trailer-line 0) (sym body-length) ∙ sym (the-last _ (map (activity-line (h .resources)) (take (h .activities) acts)) (map pair-line (take (h .pairs) ps)) _ _ i (omega arith))
+      ap (trailer-line 0) (count ∙ sym body-length) ∙ sym (the-last _ (map (activity-line (h .resources)) (take (h .activities) acts)) (map pair-line (take (h .pairs) ps)) _ _ i (omega arith))
 
   -- Line after line: x is the one at i.
   module _ (i : ℕ) (lt : i < h .activities + h .pairs + 2) (x : Content) (is : x ≡ line-at (project-of h acts ps) i) where

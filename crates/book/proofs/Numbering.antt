@@ -10,11 +10,12 @@ use Rattle.std.specs.declared.option.Option.{Option}
 use Rattle.std.specs.declared.option.Option.the-variants.{Some, None}
 use Rattle.std.proofs.shelf.Lists.{take-more-set, drop-set-lt, drop-replicate, drop-drop, length-set, length-append, length-take-le, take-append-drop}
 use Rattle.std.proofs.shelf.Tests.{cond-true, cond-false, and-from, and-left, and-right, le-leb, lt-leb}
+use Rattle.std.specs.declared.result.Result.{Result}
 use Rattle.std.specs.declared.result.Result.the-variants.{Ok, Err}
 use Rattle.project.specs.declared.refusal.Refusal.{Refusal}
 use Rattle.project.specs.declared.refusal.Refusal.the-variants.{BadForm}
-use Rattle.book.specs.Lines.{before, numeral, numerals, words, kind-word, content, content-of, counted, if-counted, fewest, most, formed}
-use Rattle.book.specs.Cuts.{text, left, number-of, InBook, Taken, NumberCut}
+use Rattle.book.specs.Lines.{before, numeral, numerals, content, content-of, counted, if-counted, fewest, most, formed}
+use Rattle.book.specs.Cuts.{text, left, place-of, number-of, kind-told, InBook, Taken, LetterCut, Cut}
 use Rattle.book.specs.Parsed.{Holds, in-range, NumbersRead, LineRead}
 use Rattle.book.specs.declared.words.Word.{Word}
 use Rattle.book.specs.declared.words.Words.{Words}
@@ -113,10 +114,7 @@ module _ {ws us : Words} {values : List ℕ} {i : ℕ} (so : Sofar ws us values 
 pub read-none : (o : Option (List ℕ)) (place : ℕ) → o ≡ None → NumbersRead o place (Err (BadForm place))
 read-none o place e = subst (λ p. NumbersRead p place (Err (BadForm place))) (sym e) refl
 
--- what is read of the numbers, and of the kind, is what is read of the line
-pub line-none : (k : ℕ) (l w : List ℕ) (ws : List (List ℕ)) (e : Refusal) (place : ℕ) → words l ≡ w ∷ ws → kind-word w ≡ None → e ≡ BadForm place → LineRead (formed k l) place (Err e)
-line-none k l w ws e place cut none is =
-    subst (λ o. LineRead o place (Err e)) (sym (ap (λ x. if-counted k (content-of x)) cut ∙ ap (λ o. if-counted k (content o (numerals ws))) none)) is
+-- What is read of a line's letter and of its numbers is what is read of the line.
 
 counted-is : (k : ℕ) (kind : LineKind) (o : Option (List ℕ)) → if-counted k (content (Some kind) o) ≡ content (Some kind) (in-range (fewest k kind) (most k kind) o)
 counted-is k kind None = refl
@@ -126,21 +124,41 @@ counted-is k kind (Some ns) = go (counted k (record { kind = kind; numbers = ns 
     go true = refl
     go false = refl
 
-module _ (k : ℕ) (l w : List ℕ) (ws : List (List ℕ)) (kind : LineKind) (f m place : ℕ) (cut : words l ≡ w ∷ ws) (tells : kind-word w ≡ Some kind) (low : f ≡ fewest k kind) (high : m ≡ most k kind) where
-  formed-is : formed k l ≡ content (Some kind) (in-range f m (numerals ws))
-  formed-is =
-      ap (λ x. if-counted k (content-of x)) cut ∙ ap (λ o. if-counted k (content o (numerals ws))) tells ∙ counted-is k kind (numerals ws) ∙ ap (λ n. content (Some kind) (in-range n (most k kind) (numerals ws))) (sym low) ∙ ap (λ n. content (Some kind) (in-range f n (numerals ws))) (sym high)
+module _ {w : Word} {ws : Words} (c : Cut w ws) (k at : ℕ) (place : at ≡ place-of w) where
+  here : at ≡ ws .place
+  here = place ∙ c .there
 
-  pub line-read : (v : Numbers) (line : Line) → line .kind ≡ kind → line .numbers ≡ v → NumbersRead (in-range f m (numerals ws)) place (Ok v) → LineRead (formed k l) place (Ok line)
-  line-read v line a b h = subst (λ o. LineRead o place (Ok line)) (sym formed-is) (go (in-range f m (numerals ws)) h)
-    where
-      go : (o : Option (List ℕ)) → NumbersRead o place (Ok v) → LineRead (content (Some kind) o) place (Ok line)
-      go None h = h
-      go (Some ns) h = (a, subst (λ u. Holds u ns) (sym b) h)
+  pub line-none : None ≡ kind-told w → LineRead (formed k (ws .line .now)) (ws .place) (Err (BadForm at))
+  line-none none =
+      subst (λ o. LineRead o (ws .place) (Err (BadForm at))) (sym (ap (λ x. if-counted k (content-of x)) (c .cut) ∙ ap (λ o. if-counted k (content o (numerals (left ws)))) (sym (c .tells) ∙ sym none))) (ap BadForm here)
 
-  pub line-refused : (e : Refusal) → NumbersRead (in-range f m (numerals ws)) place (Err e) → LineRead (formed k l) place (Err e)
-  line-refused e h = subst (λ o. LineRead o place (Err e)) (sym formed-is) (go (in-range f m (numerals ws)) h)
-    where
-      go : (o : Option (List ℕ)) → NumbersRead o place (Err e) → LineRead (content (Some kind) o) place (Err e)
-      go None h = h
-      go (Some ns) h = h
+  module _ (kind : LineKind) (f m : ℕ) (tells : Some kind ≡ kind-told w) (low : f ≡ fewest k kind) (high : m ≡ most k kind) where
+    formed-is : formed k (ws .line .now) ≡ content (Some kind) (in-range f m (numerals (left ws)))
+    formed-is =
+        ap (λ x. if-counted k (content-of x)) (c .cut) ∙ ap (λ o. if-counted k (content o (numerals (left ws)))) (sym (c .tells) ∙ sym tells) ∙ counted-is k kind (numerals (left ws)) ∙ ap (λ n. content (Some kind) (in-range n (most k kind) (numerals (left ws)))) (sym low) ∙ ap (λ n. content (Some kind) (in-range f n (numerals (left ws)))) (sym high)
+
+    pub line-read : (v : Numbers) → NumbersRead (in-range f m (numerals (left ws))) at (Ok v) → LineRead (formed k (ws .line .now)) (ws .place) (Ok (record { kind = kind; numbers = v }))
+    line-read v h =
+        subst (λ o. LineRead o (ws .place) (Ok (record { kind = kind; numbers = v }))) (sym formed-is) (go (in-range f m (numerals (left ws))) h)
+      where
+        go : (o : Option (List ℕ)) → NumbersRead o at (Ok v) → LineRead (content (Some kind) o) (ws .place) (Ok (record { kind = kind; numbers = v }))
+        go None h = h
+        go (Some ns) h = (refl, h)
+
+    pub line-refused : (e : Refusal) → NumbersRead (in-range f m (numerals (left ws))) at (Err e) → LineRead (formed k (ws .line .now)) (ws .place) (Err e)
+    line-refused e h =
+        subst (λ o. LineRead o (ws .place) (Err e)) (sym formed-is) (go (in-range f m (numerals (left ws))) h)
+      where
+        go : (o : Option (List ℕ)) → NumbersRead o at (Err e) → LineRead (content (Some kind) o) (ws .place) (Err e)
+        go None h = h ∙ ap BadForm here
+        go (Some ns) h = h
+
+-- what is read of a line that was cut is what is read of the line
+module _ {l : List ℕ} {place : ℕ} {w : Word} {ws : Words} (c : LetterCut l place w ws) where
+  pub cut-own : Cut w ws
+  cut-own =
+      subst (λ n. LetterCut (ws .line .now) n w ws) (sym (c .from)) (subst (λ x. LetterCut x place w ws) (sym (c .line)) c)
+
+  pub read-cut : (k : ℕ) (r : Result Line Refusal) → LineRead (formed k (ws .line .now)) (ws .place) r → LineRead (formed k l) place r
+  read-cut k r h =
+      subst (λ n. LineRead (formed k l) n r) (c .from) (subst (λ x. LineRead (formed k x) (ws .place) r) (c .line) h)

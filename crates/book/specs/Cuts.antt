@@ -52,7 +52,13 @@ pub record LetterCut (l : List ℕ) (place : ℕ) (w : Word) (ws : Words) : Type
   pub cut : words l ≡ text w ∷ left ws
   pub tells : kind-told w ≡ kind-word (text w)
   pub there : place-of w ≡ place
+  pub line : ws .line .now ≡ l
+  pub from : ws .place ≡ place
   pub lies : InBook ws
+
+-- w and ws are a line cut after its first word
+abbrev pub Cut : Word → Words → Type 0
+Cut w ws = LetterCut (ws .line .now) (ws .place) w ws
 
 -- the next word was taken from ws, and us is what is left
 pub record Taken (ws us : Words) (w : Word) : Type 0 where

@@ -2,22 +2,23 @@
 use mathlib.Core.Path.{_≡_}
 use mathlib.Core.Bool.{cond, _&&_}
 use mathlib.Core.List.{List, _++_}
-use Prim.Native.Nat.{ℕ, _-_, _≤_}
+use Prim.Native.Nat.{ℕ, suc, _-_, _≤_}
 use lib.Dec.{leb}
 use lib.ListN.{length, replicate}
 use Rattle.std.specs.declared.option.Option.{Option}
 use Rattle.std.specs.declared.option.Option.the-variants.{Some, None}
 use Rattle.std.specs.declared.result.Result.{Result}
 use Rattle.std.specs.declared.result.Result.the-variants.{Ok, Err}
+use Rattle.project.specs.Project.{most-resources}
 use Rattle.project.specs.declared.refusal.Refusal.{Refusal}
 use Rattle.project.specs.declared.refusal.Refusal.the-variants.{BadForm}
 use Rattle.book.specs.Lines.{Content}
 use Rattle.book.specs.declared.lines.Line.{Line}
 use Rattle.book.specs.declared.lines.Numbers.{Numbers}
 
--- the most numbers of a line
+-- the most numbers of a line: a duration and a demand for each resource
 abbrev pub most-numbers : ℕ
-most-numbers = 5
+most-numbers = suc most-resources
 
 -- the array has the numbers, and zeros after them
 pub record Holds (v : Numbers) (ns : List ℕ) : Type 0 where

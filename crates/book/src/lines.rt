@@ -1,10 +1,10 @@
 // The lines of a book: a letter that tells the kind of line, and numbers.
 ghost use mathlib.Core.Path.{_≡_};
-ghost use Prim.Native.Nat.{_+_, _≤_};
-ghost use lib.ListN.{length};
+ghost use Prim.Native.Nat.{_≤_};
 ghost use Rattle.book.specs.Lines.{kind-word, fewest, most, numerals, formed};
-ghost use Rattle.book.specs.Cuts.{left, InBook};
-ghost use Rattle.book.specs.Parsed.{NumbersRead, LineRead, in-range};
+ghost use Rattle.book.specs.Cuts.{left, InBook, Cut};
+ghost use Rattle.book.specs.Parsed.{NumbersRead, LineRead, in-range, most-numbers};
+ghost use Rattle.project.specs.Project.{most-resources};
 use crate::words::Word;
 use crate::words::Words;
 use project::refusal::Refusal;
@@ -14,10 +14,10 @@ use project::tables::KindPartialEq;
 use project::tables::MOST_RESOURCES;
 
 // The most numbers of a line: a duration and a demand for each resource.
-pub const MOST_NUMBERS: usize = 5;
+pub(crate) const MOST_NUMBERS: usize = MOST_RESOURCES + 1;
 
 #[derive(Clone, Copy, Debug, PartialEq, Eq)]
-pub enum LineKind {
+pub(crate) enum LineKind {
     Capacities,
     Job,
     Pairing(Kind),
@@ -26,19 +26,19 @@ pub enum LineKind {
 
 // The numbers of a line, and zeros after them.
 #[derive(Clone, Copy)]
-pub struct Numbers {
+pub(crate) struct Numbers {
     pub count: usize,
     pub values: [u32; MOST_NUMBERS],
 }
 
 #[derive(Clone, Copy)]
-pub struct Line {
+pub(crate) struct Line {
     pub kind: LineKind,
     pub numbers: Numbers,
 }
 
 // The kind that a word tells, if it is one letter.
-pub fn line_kind(word: &[u8]) -> Option<LineKind>
+pub(crate) fn line_kind(word: &[u8]) -> Option<LineKind>
     ensures { λ r. ⌜ r ≡ kind-word (now (word .entry)) ⌝ }
 {
     let [letter] = word else {
@@ -57,11 +57,11 @@ pub fn line_kind(word: &[u8]) -> Option<LineKind>
 
 // The fewest and the most numbers of a line of that kind.
 fn number_range(kind: LineKind, resources: usize) -> (usize, usize)
-    requires { ⌜ resources ≤ 4 ⌝ }
+    requires { ⌜ resources ≤ most-resources ⌝ }
     ensures fewest { λ r. ⌜ r .0 ≡ fewest resources kind ⌝ }
     ensures most { λ r. ⌜ r .1 ≡ most resources kind ⌝ }
     ensures order { λ r. ⌜ r .0 ≤ r .1 ⌝ }
-    ensures bound { λ r. ⌜ r .1 ≤ 5 ⌝ }
+    ensures bound { λ r. ⌜ r .1 ≤ most-numbers ⌝ }
 {
     match kind {
         LineKind::Capacities => (0, MOST_RESOURCES),
@@ -80,7 +80,7 @@ fn read_numbers(
 ) -> Result<Numbers, Refusal>
     requires within { ⌜ InBook words ⌝ }
     requires order { ⌜ fewest ≤ most ⌝ }
-    requires bound { ⌜ most ≤ 5 ⌝ }
+    requires bound { ⌜ most ≤ most-numbers ⌝ }
     ensures { λ r. ⌜ NumbersRead (in-range fewest most (numerals (left (words .entry)))) place r ⌝ }
 {
     let mut values = [0; MOST_NUMBERS];
@@ -107,13 +107,13 @@ fn read_numbers(
     })
 }
 
-// What a line says, which stands at the place, where the project has so many resources.
-pub fn read_line(line: &[u8], place: usize, resources: usize) -> Result<Line, Refusal>
-    requires within { ⌜ place + length (now line) ≤ 65535 ⌝ }
-    requires bound { ⌜ resources ≤ 4 ⌝ }
-    ensures { λ r. ⌜ LineRead (formed resources (now (line .entry))) place r ⌝ }
+// What a line says, by its letter and the words after it, where the project has so many resources.
+pub(crate) fn read_line(letter: Word<'_>, words: Words<'_>, resources: usize) -> Result<Line, Refusal>
+    requires cut { ⌜ Cut letter words ⌝ }
+    requires bound { ⌜ resources ≤ most-resources ⌝ }
+    ensures { λ r. ⌜ LineRead (formed resources (words .entry .line .now)) (words .entry .place) r ⌝ }
 {
-    let (letter, words) = Words::first(line, place);
+    let place = letter.place();
     let Some(kind) = letter.kind() else {
         return Err(Refusal::BadForm(place));
     };

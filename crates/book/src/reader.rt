@@ -1,26 +1,28 @@
 // Reading a book into lent tables, line by line.
-ghost use mathlib.Core.Bool.{cond, false, _&&_};
+ghost use mathlib.Core.Bool.{cond, false};
 ghost use mathlib.Core.List.{List, []};
 ghost use mathlib.Core.Logic.{_↔_};
 ghost use mathlib.Core.Path.{_≡_};
 ghost use Prim.Native.Nat.{ℕ, _-_, _≤_};
-ghost use lib.ListN.{length, getD, take, drop, replicate};
+ghost use lib.ListN.{length, take, replicate};
 ghost use Rattle.std.specs.declared.option.Option.the-variants.{Some, None};
 ghost use Rattle.std.specs.declared.result.Result.the-variants.{Ok, Err};
-ghost use Rattle.project.specs.Project.{Project, within, activity-fits, proper, isBlank, most-resources, most-capacity};
+ghost use Rattle.project.specs.Project.{Project, within, activity-fits, proper, isBlank, most-activities, most-resources};
 ghost use Rattle.project.specs.Refusals.{refused, answer};
 ghost use Rattle.std.specs.Holes.{between};
 ghost use Rattle.std.specs.shelf.Lists.{ending};
 ghost use Rattle.book.specs.Accepted.{IsBook, Gave, Unread, Framed};
-ghost use Rattle.book.specs.Lines.{formed};
+ghost use Rattle.book.specs.Lines.{formed, most-bytes};
 ghost use Rattle.book.specs.Reading.{judged, sizes, resources-of, not-lf, trailed, trailer, reading, head-answer, activities-after, pairs-after};
 ghost use Rattle.book.specs.Written.{written};
-ghost use Rattle.book.specs.Steps.{activity-in, pair-in, activity-judged, pair-judged, opening, placed, Ready, activity-more, pair-more, Put, Took, Kept, KeptSofar, sofar-of, content-in, trailer-told, closing, resources-known, Reads};
+ghost use Rattle.book.specs.Steps.{activity-in, pair-in, activity-judged, pair-judged, opening, placed, Ready, activity-more, pair-more, Put, Took, KeptSofar, sofar-of, content-in, trailer-told, closing, resources-known, Reads};
 use crate::lines::Line;
 use crate::lines::LineKind;
+use crate::lines::MOST_NUMBERS;
 use crate::lines::Numbers;
 use crate::lines::read_line;
 use crate::words::LF;
+use crate::words::Words;
 use crate::words::find;
 use project::refusal::Refusal;
 use project::rules::can_follow;
@@ -48,7 +50,7 @@ struct Trailer {
 
 // The numbers as bytes, if each is at most the limit in its place.
 fn bounded(numbers: &[u32], limits: &[u8; MOST_RESOURCES]) -> Option<[u8; MOST_RESOURCES]>
-    requires { ⌜ length (now numbers) ≡ 4 ⌝ }
+    requires { ⌜ length (now numbers) ≡ most-resources ⌝ }
     ensures { λ r. ⌜ r ≡ cond (within (now (numbers .entry)) (now (limits .entry))) (Some (now (numbers .entry))) None ⌝ }
 {
     let mut bytes = [0; MOST_RESOURCES];
@@ -62,14 +64,14 @@ fn bounded(numbers: &[u32], limits: &[u8; MOST_RESOURCES]) -> Option<[u8; MOST_R
 }
 
 // The activity of a J line, if its duration and demands are within their limits.
-fn activity_of(values: &[u32; 5], capacities: &[u8; MOST_RESOURCES]) -> Option<Activity>
+fn activity_of(values: &[u32; MOST_NUMBERS], capacities: &[u8; MOST_RESOURCES]) -> Option<Activity>
     ensures { λ r. ⌜ r ≡ cond (activity-fits (now (capacities .entry)) (activity-in (now (values .entry)))) (Some (activity-in (now (values .entry)))) None ⌝ }
 {
     let duration = values[0];
     if duration > MOST_DURATION as u32 {
         return None;
     }
-    let Some(demands) = bounded(&values[1..5], capacities) else {
+    let Some(demands) = bounded(&values[1..MOST_NUMBERS], capacities) else {
         return None;
     };
     Some(Activity {
@@ -79,9 +81,9 @@ fn activity_of(values: &[u32; 5], capacities: &[u8; MOST_RESOURCES]) -> Option<A
 }
 
 // The pair of an A, O or B line, if its numbers are two of so many activities, the lower first.
-fn pair_of(kind: Kind, values: &[u32; 5], activities: usize) -> Option<Pair>
+fn pair_of(kind: Kind, values: &[u32; MOST_NUMBERS], activities: usize) -> Option<Pair>
     requires kind { ⌜ isBlank kind ≡ false ⌝ }
-    requires few { ⌜ activities ≤ 62 ⌝ }
+    requires few { ⌜ activities ≤ most-activities ⌝ }
     ensures { λ r. ⌜ r ≡ cond (proper activities (pair-in kind (now (values .entry)))) (Some (pair-in kind (now (values .entry)))) None ⌝ }
 {
     let first = values[0];
@@ -100,7 +102,7 @@ fn pair_of(kind: Kind, values: &[u32; 5], activities: usize) -> Option<Pair>
 fn open_head(numbers: &Numbers, place: usize) -> Result<Head, Refusal>
     ensures { λ r. ⌜ answer r ≡ placed place (opening (now (numbers .entry))) ⌝ }
 {
-    let Some(capacities) = bounded(&numbers.values[0..4], &[MOST_CAPACITY; MOST_RESOURCES]) else {
+    let Some(capacities) = bounded(&numbers.values[0..MOST_RESOURCES], &[MOST_CAPACITY; MOST_RESOURCES]) else {
         return Err(Refusal::OverLimit(place));
     };
     Ok(Head {
@@ -113,7 +115,7 @@ fn open_head(numbers: &Numbers, place: usize) -> Result<Head, Refusal>
 
 fn add_activity(
     head: Head,
-    values: &[u32; 5],
+    values: &[u32; MOST_NUMBERS],
     place: usize,
     activities: &mut [Activity],
 ) -> Result<Head, Refusal>
@@ -139,12 +141,12 @@ fn add_activity(
 fn add_pair(
     head: Head,
     kind: Kind,
-    values: &[u32; 5],
+    values: &[u32; MOST_NUMBERS],
     place: usize,
     pairs: &mut [Pair],
 ) -> Result<Head, Refusal>
     requires kind { ⌜ isBlank kind ≡ false ⌝ }
-    requires few { ⌜ head .activities ≤ 62 ⌝ }
+    requires few { ⌜ head .activities ≤ most-activities ⌝ }
     requires held { ⌜ head .pairs ≤ length (now pairs) ⌝ }
     ensures { λ r. ⌜ Put (pair-judged head kind (now (values .entry)) (now (pairs .entry))) place (pair-more head) (head .pairs) (now (pairs .entry)) r (now (pairs .exit)) ⌝ }
 {
@@ -212,11 +214,12 @@ fn read_one(
 ) -> Result<Head, Refusal>
     requires order { ⌜ at ≤ end ⌝ }
     requires within { ⌜ end ≤ length (now book) ⌝ }
-    requires short { ⌜ length (now book) ≤ 65535 ⌝ }
+    requires short { ⌜ length (now book) ≤ most-bytes ⌝ }
     requires kept { ⌜ KeptSofar sofar (now activities) (now pairs) ⌝ }
     ensures { λ r. ⌜ Took (judged (sizes (now (activities .entry)) (now (pairs .entry))) (sofar-of sofar (now (activities .entry)) (now (pairs .entry))) (formed (resources-of (sofar-of sofar (now (activities .entry)) (now (pairs .entry)))) (between at end (now (book .entry))))) at (now (activities .entry)) (now (pairs .entry)) r (now (activities .exit)) (now (pairs .exit)) ⌝ }
 {
-    let line = read_line(&book[at..end], at, resources_of(sofar))?;
+    let (letter, words) = Words::first(&book[at..end], at);
+    let line = read_line(letter, words, resources_of(sofar))?;
     take_line(sofar, &line, at, activities, pairs)
 }
 
@@ -270,7 +273,8 @@ fn find_trailer(book: &[u8]) -> Option<Trailer>
         return None;
     }
     let place = line_start(book, len - 1);
-    let Ok(line) = read_line(&book[place..len - 1], place, 0) else {
+    let (letter, words) = Words::first(&book[place..len - 1], place);
+    let Ok(line) = read_line(letter, words, 0) else {
         return None;
     };
     point(book, place, &line)

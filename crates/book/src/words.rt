@@ -1,27 +1,25 @@
 // The words of a line: each is a part of the book, with its place.
-ghost use mathlib.Core.List.{List, [], _∷_};
 ghost use mathlib.Core.Path.{_≡_};
 ghost use Prim.Native.Nat.{_+_, _≤_};
 ghost use lib.ListN.{length, drop};
-ghost use Rattle.std.specs.Options.{Cases};
 ghost use Rattle.std.specs.shelf.Lists.{leading};
-ghost use Rattle.book.specs.Lines.{numeral};
-ghost use Rattle.book.specs.Cuts.{other, after, text, LetterCut, NumberCut, InBook, number-of, kind-told};
+ghost use Rattle.book.specs.Lines.{numeral, most-bytes};
+ghost use Rattle.book.specs.Cuts.{other, LetterCut, NumberCut, InBook, place-of, number-of, kind-told};
 use crate::lines::LineKind;
 use crate::lines::line_kind;
 
 // The byte that ends a line.
-pub const LF: u8 = b'\n';
+pub(crate) const LF: u8 = b'\n';
 
 // The byte before each number.
-pub const SPACE: u8 = b' ';
+pub(crate) const SPACE: u8 = b' ';
 
 // The most digits of a number.
-pub const MOST_DIGITS: usize = 5;
+pub(crate) const MOST_DIGITS: usize = 5;
 
 // A part of a line between its spaces, with its place in the book.
 #[derive(Clone, Copy)]
-pub enum Word<'a> {
+pub(crate) enum Word<'a> {
     // The first word of a line.
     Letter(&'a [u8], usize),
     // A word after a space.
@@ -30,14 +28,14 @@ pub enum Word<'a> {
 
 // What is left of a line after the words that were taken: nothing, or a space and more.
 #[derive(Clone, Copy)]
-pub struct Words<'a> {
+pub(crate) struct Words<'a> {
     line: &'a [u8],
     place: usize,
     at: usize,
 }
 
 // The first place from `from` on at which the byte stands, or the length.
-pub fn find(byte: u8, text: &[u8], from: usize) -> usize
+pub(crate) fn find(byte: u8, text: &[u8], from: usize) -> usize
     requires { ⌜ from ≤ length (now text) ⌝ }
     ensures value { λ r. ⌜ r ≡ from + leading (other byte) (drop from (now (text .entry))) ⌝ }
     ensures low { λ r. ⌜ from ≤ r ⌝ }
@@ -52,7 +50,7 @@ pub fn find(byte: u8, text: &[u8], from: usize) -> usize
 }
 
 // The number that a word writes, if it is one to five digits with no needless zero.
-pub fn numeral(word: &[u8]) -> Option<u32>
+pub(crate) fn numeral(word: &[u8]) -> Option<u32>
     ensures { λ r. ⌜ r ≡ numeral (now (word .entry)) ⌝ }
 {
     if word.is_empty() || word.len() > MOST_DIGITS || (word[0] == b'0' && word.len() > 1) {
@@ -69,8 +67,18 @@ pub fn numeral(word: &[u8]) -> Option<u32>
 }
 
 impl Word<'_> {
+    // Where in the book the word stands.
+    pub(crate) fn place(self) -> usize
+        ensures { λ r. ⌜ r ≡ place-of (self .entry) ⌝ }
+    {
+        match self {
+            Word::Letter(_, place) => place,
+            Word::Number(_, place) => place,
+        }
+    }
+
     // The number that the word writes, if it stands where a number may.
-    pub fn number(self) -> Option<u32>
+    pub(crate) fn number(self) -> Option<u32>
         ensures { λ r. ⌜ r ≡ number-of (self .entry) ⌝ }
     {
         match self {
@@ -80,7 +88,7 @@ impl Word<'_> {
     }
 
     // The kind of line that the word tells, if it is the first of its line.
-    pub fn kind(self) -> Option<LineKind>
+    pub(crate) fn kind(self) -> Option<LineKind>
         ensures { λ r. ⌜ r ≡ kind-told (self .entry) ⌝ }
     {
         match self {
@@ -92,8 +100,8 @@ impl Word<'_> {
 
 impl<'a> Words<'a> {
     // The first word of a line that stands at the place, and what is left of the line.
-    pub fn first(line: &'a [u8], place: usize) -> (Word<'a>, Words<'a>)
-        requires { ⌜ place + length (now line) ≤ 65535 ⌝ }
+    pub(crate) fn first(line: &'a [u8], place: usize) -> (Word<'a>, Words<'a>)
+        requires { ⌜ place + length (now line) ≤ most-bytes ⌝ }
         ensures { λ r. ⌜ LetterCut (now (line .entry)) place (r .0) (r .1) ⌝ }
     {
         let end = find(SPACE, line, 0);
@@ -108,7 +116,7 @@ impl<'a> Words<'a> {
     }
 
     // The next word, if there is one.
-    pub fn next(&mut self) -> Option<Word<'a>>
+    pub(crate) fn next(&mut self) -> Option<Word<'a>>
         requires { ⌜ InBook (now self) ⌝ }
         ensures { λ r. ⌜ NumberCut (now (self .entry)) (now (self .exit)) r ⌝ }
     {

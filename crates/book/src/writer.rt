@@ -5,10 +5,11 @@ ghost use Prim.Native.Nat.{_+_, _^_, _<_, _≤_};
 ghost use lib.ListN.{length};
 ghost use Rattle.std.specs.Joined.{joined};
 ghost use Rattle.std.specs.Written.{decimal};
-ghost use Rattle.project.specs.Project.{project-of};
+ghost use Rattle.project.specs.Project.{project-of, most-activities, most-pairs, most-resources};
 ghost use Rattle.project.specs.Refusals.{answer};
 ghost use Rattle.book.specs.Accepted.{ReadsBack};
 ghost use Rattle.book.specs.Lines.{letter, spaced};
+ghost use Rattle.book.specs.Parsed.{most-numbers};
 ghost use Rattle.book.specs.Puts.{PutAt, Writable, line-text, line-at, whole-text};
 ghost use Rattle.book.specs.Steps.{content-in};
 ghost use Rattle.book.specs.Written.{activity-line, capacities-line, pair-line, trailer-line, written, writing, bytes-after};
@@ -55,7 +56,7 @@ fn write_number(out: &mut [u8], at: usize, n: u32) -> usize
 
 // How many bytes the numbers of a line take, each with the space before it.
 fn numbers_length(numbers: &[u32]) -> usize
-    requires { ⌜ length (now numbers) ≤ 5 ⌝ }
+    requires { ⌜ length (now numbers) ≤ most-numbers ⌝ }
     ensures value { λ r. ⌜ r ≡ length (joined spaced (now (numbers .entry))) ⌝ }
     ensures bound { λ r. ⌜ r ≤ 55 ⌝ }
 {
@@ -94,7 +95,7 @@ fn line_letter(kind: LineKind) -> u8
 }
 
 fn line_length(line: &Line) -> usize
-    requires { ⌜ now line .numbers .count ≤ 5 ⌝ }
+    requires { ⌜ now line .numbers .count ≤ most-numbers ⌝ }
     ensures value { λ r. ⌜ r ≡ length (line-text (now (line .entry))) ⌝ }
     ensures bound { λ r. ⌜ r ≤ 57 ⌝ }
 {
@@ -103,7 +104,7 @@ fn line_length(line: &Line) -> usize
 }
 
 fn write_line(out: &mut [u8], at: usize, line: &Line) -> usize
-    requires few { ⌜ now line .numbers .count ≤ 5 ⌝ }
+    requires few { ⌜ now line .numbers .count ≤ most-numbers ⌝ }
     requires room { ⌜ at + length (line-text (now line)) ≤ length (now out) ⌝ }
     ensures { λ r. ⌜ PutAt (now (out .entry)) (now (out .exit)) at r (line-text (now (line .entry))) ⌝ }
 {
@@ -114,9 +115,9 @@ fn write_line(out: &mut [u8], at: usize, line: &Line) -> usize
 }
 
 fn capacities_line(head: &Head) -> Line
-    requires { ⌜ now head .resources ≤ 4 ⌝ }
+    requires { ⌜ now head .resources ≤ most-resources ⌝ }
     ensures says { λ r. ⌜ content-in r ≡ capacities-line (project-of (now (head .entry)) [] []) ⌝ }
-    ensures few { λ r. ⌜ r .numbers .count ≤ 5 ⌝ }
+    ensures few { λ r. ⌜ r .numbers .count ≤ most-numbers ⌝ }
 {
     let [a, b, c, d] = head.capacities;
     let values = [a as u32, b as u32, c as u32, d as u32, 0];
@@ -130,9 +131,9 @@ fn capacities_line(head: &Head) -> Line
 }
 
 fn activity_line(activity: &Activity, resources: usize) -> Line
-    requires { ⌜ resources ≤ 4 ⌝ }
+    requires { ⌜ resources ≤ most-resources ⌝ }
     ensures says { λ r. ⌜ content-in r ≡ activity-line resources (now (activity .entry)) ⌝ }
-    ensures few { λ r. ⌜ r .numbers .count ≤ 5 ⌝ }
+    ensures few { λ r. ⌜ r .numbers .count ≤ most-numbers ⌝ }
 {
     let [a, b, c, d] = activity.demands;
     let values = [
@@ -153,7 +154,7 @@ fn activity_line(activity: &Activity, resources: usize) -> Line
 
 fn pair_line(pair: &Pair) -> Line
     ensures says { λ r. ⌜ content-in r ≡ pair-line (now (pair .entry)) ⌝ }
-    ensures few { λ r. ⌜ r .numbers .count ≤ 5 ⌝ }
+    ensures few { λ r. ⌜ r .numbers .count ≤ most-numbers ⌝ }
 {
     let values = [pair.first as u32, pair.second as u32, 0, 0, 0];
     Line {
@@ -166,7 +167,7 @@ fn pair_line(pair: &Pair) -> Line
 fn trailer_line(lines: usize) -> Line
     requires { ⌜ lines < 2 ^ 32 ⌝ }
     ensures says { λ r. ⌜ content-in r ≡ trailer-line 0 lines ⌝ }
-    ensures few { λ r. ⌜ r .numbers .count ≤ 5 ⌝ }
+    ensures few { λ r. ⌜ r .numbers .count ≤ most-numbers ⌝ }
 {
     let values = [0, lines as u32, 0, 0, 0];
     Line {
@@ -180,7 +181,7 @@ fn text_line(head: &Head, activities: &[Activity], pairs: &[Pair], i: usize) -> 
     requires tables { ⌜ Writable (now head) (now activities) (now pairs) ⌝ }
     requires within { ⌜ i < now head .activities + now head .pairs + 2 ⌝ }
     ensures says { λ r. ⌜ content-in r ≡ line-at (project-of (now (head .entry)) (now (activities .entry)) (now (pairs .entry))) i ⌝ }
-    ensures few { λ r. ⌜ r .numbers .count ≤ 5 ⌝ }
+    ensures few { λ r. ⌜ r .numbers .count ≤ most-numbers ⌝ }
 {
     let first_pair = 1 + head.activities;
     let trailer = first_pair + head.pairs;
@@ -197,8 +198,8 @@ fn text_line(head: &Head, activities: &[Activity], pairs: &[Pair], i: usize) -> 
 
 // How many lines the text has.
 fn line_count(head: &Head) -> usize
-    requires few { ⌜ now head .activities ≤ 62 ⌝ }
-    requires pairs { ⌜ now head .pairs ≤ 256 ⌝ }
+    requires few { ⌜ now head .activities ≤ most-activities ⌝ }
+    requires pairs { ⌜ now head .pairs ≤ most-pairs ⌝ }
     ensures { λ r. ⌜ r ≡ now (head .entry) .activities + now (head .entry) .pairs + 2 ⌝ }
 {
     head.activities + head.pairs + 2

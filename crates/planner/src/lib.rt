@@ -2,6 +2,7 @@
 ghost use mathlib.Core.Path.{_≡_};
 ghost use Prim.Native.Nat.{_≤_};
 ghost use lib.ListN.{length};
+ghost use Rattle.project.specs.Project.{most-activities, most-pairs};
 ghost use Rattle.planner.specs.Response.{Responds, Rewrites, response};
 use project::refusal::Refusal;
 use project::refusal::RefusalFromAlloc;
@@ -13,8 +14,8 @@ use std::alloc::Global;
 
 // Reads a book into the tables, and writes it anew, without its cover, into the lent bytes. Answers how many it wrote.
 fn rewrite(text: &[u8], activities: &mut [Activity], pairs: &mut [Pair], out: &mut [u8]) -> Result<usize, Refusal>
-    requires activities { ⌜ length (now activities) ≡ 62 ⌝ }
-    requires pairs { ⌜ length (now pairs) ≡ 256 ⌝ }
+    requires activities { ⌜ length (now activities) ≡ most-activities ⌝ }
+    requires pairs { ⌜ length (now pairs) ≡ most-pairs ⌝ }
     requires room { ⌜ length (now text) ≤ length (now out) ⌝ }
     ensures { λ r. ⌜ Rewrites (response (now (text .entry))) (now (out .entry)) r (now (out .exit)) ⌝ }
 {

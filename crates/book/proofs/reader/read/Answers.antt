@@ -1,4 +1,5 @@
 use mathlib.Core.Path.{_∙_}
+use Rattle.book.specs.Reading.{reading, sizes}
 use Rattle.book.proofs.Answering.{accepts-call, refuses-call, written-call}
 use Rattle.book.proofs.Looping.{refusal, acceptance}
 use Rattle.book.proofs.reader.read.Needs as need
@@ -8,7 +9,7 @@ returns-then-is-err c =
     let bs = c .args .book .now in
     let acts = c .args .activities .now in
     let ps = c .args .pairs .now in
-    let h = refusal _ _ _ _ _ _ (c .read-project-answer .ensures) (c .if-is-err .ensures tt .value) (c .read-project-answer .kept .activities) (c .read-project-answer .kept .pairs) in
+    let h = refusal (reading (sizes acts ps) bs) acts ps (c .read-project-answer .result) (c .read-project-answer .last .activities) (c .read-project-answer .last .pairs) (c .read-project-answer .ensures) (c .if-is-err .ensures tt .value) (c .read-project-answer .kept .activities) (c .read-project-answer .kept .pairs) in
     let a = c .blank .ensures ∙ h .1 in
     let b = c .blank-then-is-err .ensures ∙ h .2 in
     record {
@@ -25,7 +26,7 @@ returns-else-is-err c =
     let bs = c .args .book .now in
     let acts = c .args .activities .now in
     let ps = c .args .pairs .now in
-    let h = acceptance _ _ _ _ _ _ (c .read-project-answer .ensures) (c .if-is-err .ensures tt .value) in
+    let h = acceptance (reading (sizes acts ps) bs) acts ps (c .read-project-answer .result) (c .read-project-answer .last .activities) (c .read-project-answer .last .pairs) (c .read-project-answer .ensures) (c .if-is-err .ensures tt .value) in
     record {
       value = h .0;
       activities = h .1;

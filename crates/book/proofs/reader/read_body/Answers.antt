@@ -11,7 +11,7 @@ pub returns-in-Break-head : need.returns-in-Break-head
 returns-in-Break-head c =
     let p = err-from-errBy (c .from-residual .result) (c .from-residual .ensures .1) in
     let m = c .loop-at .inv in
-    rw (p .1, p .2) (refuse m _ (turn m _ (c .loop-at-test .taken) (c .find-end .ensures .value)) _ _ _ (c .in-Break-head .ensures tt))
+    rw (p .1, p .2) (refuse m (c .find-end .result) (turn m (c .find-end .result) (c .loop-at-test .taken) (c .find-end .ensures .value)) _ (c .read-one .last .activities) (c .read-one .last .pairs) (c .in-Break-head .ensures tt))
 
 pub add-count : need.add-count
 add-count c = omega (arith, c .loop-at .inv .few, c .loop-at .inv .within, c .loop-at .inv .short)
@@ -19,7 +19,7 @@ add-count c = omega (arith, c .loop-at .inv .few, c .loop-at .inv .within, c .lo
 pub loop-at-again : need.loop-at-again
 loop-at-again c =
     let m = c .loop-at .inv in
-    go-on m _ (turn m _ (c .loop-at-test .taken) (c .find-end .ensures .value)) _ _ _ (c .read-one .kept .activities) (c .read-one .kept .pairs) (c .in-Continue-head .ensures tt)
+    go-on m (c .find-end .result) (turn m (c .find-end .result) (c .loop-at-test .taken) (c .find-end .ensures .value)) (c .in-Continue-head .head) (c .read-one .last .activities) (c .read-one .last .pairs) (c .read-one .kept .activities) (c .read-one .kept .pairs) (c .in-Continue-head .ensures tt)
 
 pub returns : need.returns
 returns c =

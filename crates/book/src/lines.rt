@@ -108,7 +108,11 @@ fn read_numbers(
 }
 
 // What a line says, by its letter and the words after it, where the project has so many resources.
-pub(crate) fn read_line(letter: Word<'_>, words: Words<'_>, resources: usize) -> Result<Line, Refusal>
+pub(crate) fn read_line(
+    letter: Word<'_>,
+    words: Words<'_>,
+    resources: usize,
+) -> Result<Line, Refusal>
     requires cut { ⌜ Cut letter words ⌝ }
     requires bound { ⌜ resources ≤ most-resources ⌝ }
     ensures { λ r. ⌜ LineRead (formed resources (words .entry .line .now)) (words .entry .place) r ⌝ }

@@ -102,7 +102,10 @@ fn pair_of(kind: Kind, values: &[u32; MOST_NUMBERS], activities: usize) -> Optio
 fn open_head(numbers: &Numbers, place: usize) -> Result<Head, Refusal>
     ensures { λ r. ⌜ answer r ≡ placed place (opening (now (numbers .entry))) ⌝ }
 {
-    let Some(capacities) = bounded(&numbers.values[0..MOST_RESOURCES], &[MOST_CAPACITY; MOST_RESOURCES]) else {
+    let Some(capacities) = bounded(
+        &numbers.values[0..MOST_RESOURCES],
+        &[MOST_CAPACITY; MOST_RESOURCES],
+    ) else {
         return Err(Refusal::OverLimit(place));
     };
     Ok(Head {

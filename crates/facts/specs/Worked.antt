@@ -27,11 +27,11 @@ job duration demand = record { duration = duration; demands = demand ∷ 0 ∷ 0
 
 abbrev pub reel : Project
 reel = record {
-      resources = 1;
-      capacities = 2 ∷ 0 ∷ 0 ∷ 0 ∷ [];
-      activities = job 2 1 ∷ job 1 2 ∷ job 2 1 ∷ [];
-      pairs = record { kind = And; first = 1; second = 2 } ∷ record { kind = Bi; first = 1; second = 3 } ∷ [];
-    }
+  resources = 1;
+  capacities = 2 ∷ 0 ∷ 0 ∷ 0 ∷ [];
+  activities = job 2 1 ∷ job 1 2 ∷ job 2 1 ∷ [];
+  pairs = record { kind = And; first = 1; second = 2 } ∷ record { kind = Bi; first = 1; second = 3 } ∷ [];
+}
 
 pub record Worked : Type 0 where
   -- the reel reads

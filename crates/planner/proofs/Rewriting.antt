@@ -23,8 +23,7 @@ use Rattle.project.specs.declared.tables.Head.{Head}
 use Rattle.project.specs.declared.tables.Pair.{Pair}
 use Rattle.project.proofs.Decided.{decides-sound}
 use Rattle.book.specs.Accepted.{IsBook}
-use Rattle.book.specs.declared.lines.LineKind.the-variants.{Trailer}
-use Rattle.book.specs.Lines.{lf, space, most-bytes, letter, line}
+use Rattle.book.specs.Lines.{lf, space, most-bytes, line}
 use Rattle.book.specs.Reading.{Sizes, reading, sizes, head-answer, activities-after, pairs-after}
 use Rattle.book.specs.Written.{body, trailer-line, written, writing, bytes-after}
 use Rattle.book.proofs.Acceptance.{accepts}
@@ -35,10 +34,10 @@ use Rattle.planner.specs.Response.{full, response, rewritten, Rewrites}
 -- the trailer of a text without a cover is no longer
 trailer-shorter : (k n : ℕ) → k < 2 ^ 64 → length (line (trailer-line 0 n)) ≤ length (line (trailer-line k n))
 trailer-shorter k n small =
-    more (decimal 0) (decimal k) (space ∷ (decimal n ++ [])) (omega (arith, decimal-some k small, ap length (decimal-digit 0 (omega arith))))
+    more 90 (decimal 0) (decimal k) (space ∷ (decimal n ++ [])) (omega (arith, decimal-some k small, ap length (decimal-digit 0 (omega arith))))
   where
-    more : (a b rest : List ℕ) → length a ≤ length b → length (letter Trailer ∷ space ∷ ((a ++ rest) ++ lf ∷ [])) ≤ length (letter Trailer ∷ space ∷ ((b ++ rest) ++ lf ∷ []))
-    more a b rest le =
+    more : (letter : ℕ) (a b rest : List ℕ) → length a ≤ length b → length (letter ∷ space ∷ ((a ++ rest) ++ lf ∷ [])) ≤ length (letter ∷ space ∷ ((b ++ rest) ++ lf ∷ []))
+    more letter a b rest le =
         omega (arith, length-append (a ++ rest) (lf ∷ []), length-append (b ++ rest) (lf ∷ []), length-append a rest, length-append b rest)
 
 shorter : (cover text a b : List ℕ) → length a ≤ length b → length (text ++ a) ≤ length (cover ++ (text ++ b))
@@ -83,8 +82,7 @@ module _ (bs : List ℕ) (acts : List Activity) (ps : List Pair) (out : List ℕ
       let book = accepts (sizes acts ps) bs p .0 read in
       let same = held p acts′ ps′ acts ps a b in
       let fits : leb (length (written 0 p)) (length out) ≡ true = le-leb _ _ (within (no-longer (sizes acts ps) bs p book) room) in
-      let is : writing (head-of p) acts′ ps′ out ≡ Ok (length (written 0 p)) = cond-true _ _ _ (keeps p acts′ ps′ acts ps (book .rules) a b) ∙ ap (λ q. cond (leb (length (written 0 q)) (length out)) (Ok (length (written 0 q))) (Err (refused 9 0))) same ∙ cond-true _ _ _ fits in
-      (
+      let is : writing (head-of p) acts′ ps′ out ≡ Ok (length (written 0 p)) = cond-true _ _ _ (keeps p acts′ ps′ acts ps (book .rules) a b) ∙ ap (λ q. cond (leb (length (written 0 q)) (length out)) (Ok (length (written 0 q))) (Err (refused 9 0))) same ∙ cond-true _ _ _ fits in (
         answer-ok r _ (value ∙ is),
         after ∙ ap (λ o. bytes-after o (written 0 (project-of (head-of p) acts′ ps′)) out) is ∙ ap (λ q. filled (written 0 q) out) same,
       )

@@ -13,7 +13,12 @@ use project::tables::Pair;
 use std::alloc::Global;
 
 // Reads a book into the tables, and writes it anew, without its cover, into the lent bytes. Answers how many it wrote.
-fn rewrite(text: &[u8], activities: &mut [Activity], pairs: &mut [Pair], out: &mut [u8]) -> Result<usize, Refusal>
+fn rewrite(
+    text: &[u8],
+    activities: &mut [Activity],
+    pairs: &mut [Pair],
+    out: &mut [u8],
+) -> Result<usize, Refusal>
     requires activities { ⌜ length (now activities) ≡ most-activities ⌝ }
     requires pairs { ⌜ length (now pairs) ≡ most-pairs ⌝ }
     requires room { ⌜ length (now text) ≤ length (now out) ⌝ }

@@ -8,9 +8,9 @@ use Rattle.book.proofs.reader.read_one.Needs as need
 
 pub read-line-requires : need.read-line-requires
 read-line-requires c κs = record {
-      cut = cut-own (c .first .ensures);
-      bound = omega (arith, resources-few (c .args .sofar) (c .args .activities .now) (c .args .pairs .now) (c .pre .kept));
-    }
+  cut = cut-own (c .first .ensures);
+  bound = omega (arith, resources-few (c .args .sofar) (c .args .activities .now) (c .args .pairs .now) (c .pre .kept));
+}
 
 pub returns-in-Break-line : need.returns-in-Break-line
 returns-in-Break-line c =

@@ -12,7 +12,7 @@ returns c = record {
   cut = first-cut (c .args .line .now) (c .find-end .result) (c .find-end .ensures .value);
   tells = refl;
   there = refl;
-      line = refl;
-      from = refl;
+  line = refl;
+  from = refl;
   lies = record { within = c .find-end .ensures .high; short = c .pre };
 }

@@ -21,10 +21,11 @@ use Rattle.std.proofs.shelf.Lists.{length-append, length-map}
 use Rattle.std.proofs.shelf.Tests.{and-parts, and-from, eqb-true, eq-eqb, leb-true, le-leb, cond-true}
 use Rattle.project.specs.Project.{Project}
 use Rattle.project.specs.Refusals.{Refused}
-use Rattle.book.specs.Accepted.{Ended, IsBook, Accepts, with-lf, Framed, Reads-back}
-use Rattle.book.specs.Lines.{most-bytes, lf, Content, spaced, spelled, line, most-digits}
-use Rattle.book.specs.Reading.{Sizes, Sofar, read-lines, Trailed, trailer, body-lines, closed, read-after, reading}
+use Rattle.book.specs.Accepted.{Ended, IsBook, Framed, Sizes}
+use Rattle.book.specs.Lines.{most-bytes, lf, Content, spaced, spelled, line, most-digits, with-lf}
+use Rattle.book.specs.Reading.{Sofar, read-lines, Trailed, trailer, body-lines, closed, read-after, reading}
 use Rattle.book.specs.Written.{activity-line, pair-line, trailer-line, body, written}
+use Rattle.book.proofs.Theorems.{Accepts, Written-book}
 use Rattle.book.proofs.Bodies.{Kept, kept-from-rules, shaped-from-kept, rules-from-kept, Brief, body-brief, err-ok, read-body, body-read}
 use Rattle.book.proofs.Frames.{trailer-framed, found, framed-reading}
 use Rattle.book.proofs.Spelling.{spelled-no-lf}
@@ -128,7 +129,7 @@ written-short z p kept =
     let trailer-brief : Brief last = record { sayable = record { lettered = λ e. let bad : _≡_ {A = ℕ} 0 1 = cc in omega arith; small = (omega arith, (omega arith, tt)) }; few = omega arith } in
     omega (arith, length-append (joined line (body p)) (line last), length-joined-le line 32 (body p) (all-weaker Brief (λ x. length (line x) ≤ 32) line-short (body p) (body-brief z p kept)), line-short last trailer-brief)
 
-pub reads-back : Reads-back
-reads-back z p s r a q =
+pub written-book : Written-book
+written-book z p s r a q =
     let kept = kept-from-rules z p s r a q in
-    book-reads z (written 0 p) p (record { cover = []; ended = inl refl; whole = refl; short = written-short z p kept; shaped = s; rules = r; activities = a; pairs = q })
+    record { cover = []; ended = inl refl; whole = refl; short = written-short z p kept; shaped = s; rules = r; activities = a; pairs = q }

@@ -29,9 +29,9 @@ use Rattle.project.proofs.Numbers.{decides-leb, decides-activity}
 use Rattle.project.proofs.Pairs.{Once, Few, decides-proper, decides-follows, decides-pairs}
 use Rattle.book.specs.declared.lines.LineKind.{LineKind}
 use Rattle.book.specs.declared.lines.LineKind.the-variants.{Capacities, Job, Pairing, Trailer}
-use Rattle.book.specs.Accepted.{Sayable, with-lf}
-use Rattle.book.specs.Lines.{lf, Content, spelled, most-digits, fewest, most, formed}
-use Rattle.book.specs.Reading.{Sizes, Sofar, resources-of, padded, activity-of, pair-of, opened, with-activity, with-pair, added, extended, isNil, in-order, at-most, limited, paired, roomy, judged, on, read-lines}
+use Rattle.book.specs.Accepted.{Sayable, Sizes}
+use Rattle.book.specs.Lines.{lf, Content, spelled, most-digits, fewest, most, formed, with-lf}
+use Rattle.book.specs.Reading.{Sofar, resources-of, padded, activity-of, pair-of, opened, with-activity, with-pair, added, extended, isNil, in-order, at-most, limited, paired, roomy, judged, on, read-lines}
 use Rattle.book.specs.Written.{capacities-line, activity-line, pair-line, body}
 use Rattle.book.proofs.Spelling.{formed-says, says-formed}
 

@@ -24,9 +24,9 @@ use Rattle.project.specs.declared.tables.Kind.the-variants.{Blank, And, Or, Bi}
 use Rattle.project.specs.declared.tables.Pair.{Pair}
 use Rattle.book.specs.declared.lines.LineKind.{LineKind}
 use Rattle.book.specs.declared.lines.LineKind.the-variants.{Capacities, Job, Pairing, Trailer}
-use Rattle.book.specs.Accepted.{Says, Misplaced, Over, Unpaired, Crowded, Fault, capacities-in, activities-in, pairs-in, or-lines, first, second, is-job, is-pairing, is-or}
+use Rattle.book.specs.Accepted.{Says, Misplaced, Over, Unpaired, Crowded, Fault, capacities-in, activities-in, pairs-in, or-lines, first, second, is-job, is-pairing, is-or, Sizes}
 use Rattle.book.specs.Lines.{Content, spelled, formed, fewest, most}
-use Rattle.book.specs.Reading.{Sizes, Sofar, resources-of, padded, activity-of, pair-of, extended, isNil, in-order, at-most, limited, paired, roomy, judged}
+use Rattle.book.specs.Reading.{Sofar, resources-of, padded, activity-of, pair-of, extended, isNil, in-order, at-most, limited, paired, roomy, judged}
 use Rattle.book.specs.Written.{capacities-line, activity-line, pair-line, body}
 use Rattle.book.proofs.Bodies.{Kept, Passed, first-grown, grown, nil-from-isNil, decides-at-most, padded-front, padded-past}
 use Rattle.book.proofs.Frames.{two}

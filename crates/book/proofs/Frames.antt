@@ -18,9 +18,9 @@ use Rattle.std.proofs.shelf.Parts.{between-is}
 use Rattle.std.proofs.shelf.Tests.{cond-false, cases-bool, cases-lt, cases-eq, and-parts, or-cases, or-right, eqb-true, eq-eqb, ne-eqb, leb-true, le-leb}
 use Rattle.book.specs.declared.lines.LineKind.{LineKind}
 use Rattle.book.specs.declared.lines.LineKind.the-variants.{Capacities, Job, Pairing, Trailer}
-use Rattle.book.specs.Accepted.{Ended, Framed, Sayable, with-lf}
-use Rattle.book.specs.Lines.{most-bytes, lf, Content, onto, lines, spelled, formed, letter, spaced, fewest, most, most-digits}
-use Rattle.book.specs.Reading.{Sizes, Trailed, read-lines, closed, read-after, reading, trailer, body-lines, not-lf, last-line, but-last, ends-in-lf, starts-line, pointed, trailed, trailed-by}
+use Rattle.book.specs.Accepted.{Ended, Framed, Sayable, Sizes}
+use Rattle.book.specs.Lines.{most-bytes, lf, Content, onto, lines, spelled, formed, letter, spaced, fewest, most, most-digits, with-lf}
+use Rattle.book.specs.Reading.{Trailed, read-lines, closed, read-after, reading, trailer, body-lines, not-lf, last-line, but-last, ends-in-lf, starts-line, pointed, trailed, trailed-by}
 use Rattle.book.specs.Written.{trailer-line}
 use Rattle.book.proofs.Spelling.{none-some, formed-says, says-formed, spelled-no-lf}
 

@@ -14,4 +14,5 @@ pub mod Refusing
 pub mod Spelling
 pub mod Taking
 pub mod TextLines
+pub mod Theorems
 pub mod Writing

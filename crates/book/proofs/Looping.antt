@@ -26,11 +26,11 @@ use Rattle.project.specs.declared.tables.Pair.{Pair}
 use Rattle.book.specs.declared.lines.LineKind.{LineKind}
 use Rattle.book.specs.declared.lines.LineKind.the-variants.{Capacities, Job, Pairing, Trailer}
 use Rattle.book.specs.declared.reader.Trailer.{Trailer as Found}
-use Rattle.book.specs.Accepted.{with-lf}
+use Rattle.book.specs.Accepted.{Sizes, sizes}
 use Rattle.book.specs.Cuts.{other}
-use Rattle.book.specs.Lines.{lf, most-bytes, line, formed}
+use Rattle.book.specs.Lines.{lf, most-bytes, line, formed, with-lf}
 use Rattle.book.specs.Written.{trailer-line}
-use Rattle.book.specs.Reading.{Sizes, Sofar, Trailed, resources-of, activity-of, pair-of, added, extended, judged, on, read-lines, trailer, body-lines, closed, read-after, reading, sizes, head-answer, activities-after, pairs-after, blank-activity, blank-pair}
+use Rattle.book.specs.Reading.{Sofar, Trailed, resources-of, activity-of, pair-of, added, extended, judged, on, read-lines, trailer, body-lines, closed, read-after, reading, head-answer, activities-after, pairs-after, blank-activity, blank-pair}
 use Rattle.book.specs.Steps.{sofar-of, Kept, KeptSofar, Took, closing, Reads}
 use Rattle.book.proofs.Bodies.{step-from-judged}
 use Rattle.book.proofs.Frames.{Free, trailer-framed}

@@ -24,7 +24,8 @@ use Rattle.book.specs.declared.lines.LineKind.the-variants.{Capacities, Job, P
 use Rattle.book.specs.declared.lines.Numbers.{Numbers}
 use Rattle.book.specs.Lines.{Content, fewest, most, formed}
 use Rattle.book.specs.Parsed.{most-numbers, Holds, LineRead}
-use Rattle.book.specs.Reading.{Sizes, resources-of, judged, sizes}
+use Rattle.book.specs.Accepted.{Sizes, sizes}
+use Rattle.book.specs.Reading.{resources-of, judged}
 use Rattle.book.specs.Steps.{sofar-of, resources-known, Kept, KeptSofar, numbers-of, content-in, lettered, Ready, Took}
 use Rattle.book.proofs.Spelling.{formed-says}
 

@@ -18,10 +18,11 @@ use Rattle.std.proofs.shelf.Lists.{append-assoc, append-nil, length-append, len
 use Rattle.std.proofs.shelf.Tests.{cond-false, cases-lt, cases-order, and-cases, and-left, and-right, eqb-false, ne-eqb, leb-false, lt-leb}
 use Rattle.project.specs.Project.{Project}
 use Rattle.project.specs.Refusals.{Refused, refused}
-use Rattle.book.specs.Accepted.{with-lf, Sayable, Says, Framed, Fault, Faultless, First-fault, Unread, Refuses, Writes-back, activities-in}
-use Rattle.book.specs.Lines.{Content, content-of, words, spelled, formed}
-use Rattle.book.specs.Reading.{Sizes, Sofar, Trailed, on, judged, resources-of, read-lines, trailer, closed, read-after, reading, body-lines}
+use Rattle.book.specs.Accepted.{Sayable, Says, Framed, Fault, Faultless, First-fault, Unread, activities-in, Sizes}
+use Rattle.book.specs.Lines.{Content, content-of, words, spelled, formed, with-lf}
+use Rattle.book.specs.Reading.{Sofar, Trailed, on, judged, resources-of, read-lines, trailer, closed, read-after, reading, body-lines}
 use Rattle.book.specs.Written.{body, written}
+use Rattle.book.proofs.Theorems.{Refuses, Writes-back}
 use Rattle.book.proofs.Acceptance.{book-framed, accepts}
 use Rattle.book.proofs.Bodies.{kept-from-rules, err-ok}
 use Rattle.book.proofs.Faulting.{Built, Verdict, verdict, activities-are, differs}

@@ -24,7 +24,8 @@ use Rattle.book.specs.declared.lines.LineKind.{LineKind}
 use Rattle.book.specs.declared.lines.LineKind.the-variants.{Capacities, Job, Pairing, Trailer}
 use Rattle.book.specs.declared.lines.Numbers.{Numbers}
 use Rattle.book.specs.Parsed.{most-numbers, Holds}
-use Rattle.book.specs.Reading.{padded, activity-of, pair-of, opened, with-activity, with-pair, isNil, at-most, judged, sizes}
+use Rattle.book.specs.Accepted.{sizes}
+use Rattle.book.specs.Reading.{padded, activity-of, pair-of, opened, with-activity, with-pair, isNil, at-most, judged}
 use Rattle.book.specs.Steps.{sofar-of, Kept, KeptSofar, numbers-of, activity-in, pair-in, opening, activity-judged, pair-judged, activity-more, pair-more, placed, Put, Took}
 
 module _ {A : Type 0} (xs : List A) (n : ℕ) where

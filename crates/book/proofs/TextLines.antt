@@ -1,6 +1,6 @@
 -- The lines of a project's text, by their places, and the text that they make. Assumes nothing.
 use mathlib.Core.Path.{_≡_, refl, sym, ap, _∙_}
-use mathlib.Core.Bool.{true}
+use mathlib.Core.Bool.{true, false}
 use mathlib.Core.List.{List, [], _∷_, _++_, map}
 use Prim.Native.Nat.{ℕ, _+_, _-_, _≤_, _<_}
 use native.Mathlib.Omega.{arith}
@@ -146,3 +146,9 @@ module _ (h : Head) (acts : List Activity) (ps : List Pair) (out : List ℕ) (ke
   all-written {left} {n} le p =
       let q = put-all (put-same refl refl (text-written (project-of h acts ps)) p) in
       (ap Ok (q .0) ∙ sym (long le), q .1 ∙ ap (λ r. bytes-after r (written 0 (project-of h acts ps)) out) (sym (long le)))
+
+-- the tables are not sound
+pub no-rules : (h : Head) (acts : List Activity) (ps : List Pair) (out : List ℕ) → false ≡ sound h acts ps → (Err (refused 8 0) ≡ writing h acts ps out) × (out ≡ bytes-after (writing h acts ps out) (written 0 (project-of h acts ps)) out)
+no-rules h acts ps out un =
+    let is : writing h acts ps out ≡ Err (refused 8 0) = cond-false _ _ _ (sym un) in
+    (sym is, ap (λ r. bytes-after r (written 0 (project-of h acts ps)) out) (sym is))

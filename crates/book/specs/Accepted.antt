@@ -3,7 +3,7 @@
 use mathlib.Core.Path.{_≡_}
 use mathlib.Core.Bool.{Bool, true, false, _&&_}
 use mathlib.Core.List.{List, [], _∷_, _++_, map}
-use mathlib.Core.Logic.{_⊎_, _↔_}
+use mathlib.Core.Logic.{_⊎_}
 use Prim.Native.Nat.{ℕ, suc, _+_, _^_, _≤_, _<_}
 use lib.Dec.{eqb}
 use lib.ListN.{length, getD, take}
@@ -11,7 +11,7 @@ use Rattle.std.specs.Joined.{joined}
 use Rattle.std.specs.declared.result.Result.{Result}
 use Rattle.std.specs.declared.result.Result.the-variants.{Ok, Err}
 use Rattle.std.specs.shelf.Lists.{All, Has, countBy}
-use Rattle.project.specs.Project.{Project, project-of, head-of, Shaped, Rules, isOr, most-activities, most-capacity, most-duration, most-pairs, most-or-predecessors}
+use Rattle.project.specs.Project.{Project, head-of, filled, Shaped, Rules, isOr, most-activities, most-capacity, most-duration, most-pairs, most-or-predecessors}
 use Rattle.project.specs.Refusals.{refused}
 use Rattle.project.specs.declared.refusal.Refusal.{Refusal}
 use Rattle.project.specs.declared.tables.Activity.{Activity}
@@ -20,9 +20,20 @@ use Rattle.project.specs.declared.tables.Pair.{Pair}
 use Rattle.project.specs.declared.tables.Kind.the-variants.{Blank, Or}
 use Rattle.book.specs.declared.lines.LineKind.{LineKind}
 use Rattle.book.specs.declared.lines.LineKind.the-variants.{Capacities, Job, Pairing, Trailer}
-use Rattle.book.specs.Lines.{lf, most-bytes, Content, spelled, line, most-digits, fewest, most}
+use Rattle.book.specs.Lines.{lf, most-bytes, Content, spelled, with-lf, line, most-digits, fewest, most}
 use Rattle.book.specs.Written.{trailer-line, written}
-use Rattle.book.specs.Reading.{Sizes, reading}
+
+-- how many records the lent tables have room for
+pub record Sizes : Type 0 where
+  pub activities : ℕ
+  pub pairs : ℕ
+
+abbrev pub sizes : List Activity → List Pair → Sizes
+sizes acts ps = record { activities = length acts; pairs = length ps }
+
+-- tables that have room for every project
+abbrev pub full : Sizes
+full = record { activities = most-activities; pairs = most-pairs }
 
 -- empty, or ending in LF
 abbrev pub Ended : List ℕ → Type 0
@@ -39,19 +50,13 @@ pub record IsBook (z : Sizes) (bs : List ℕ) (p : Project) : Type 0 where
   pub activities : length (p .activities) ≤ z .activities
   pub pairs : length (p .pairs) ≤ z .pairs
 
--- reading accepts a book with the project p exactly when it is the book of p
-abbrev pub Accepts : Type 0
-Accepts = (z : Sizes) (bs : List ℕ) (p : Project) → (reading z bs ≡ Ok p) ↔ IsBook z bs p
-
--- the call answered with the project p: r is its head, and the tables hold its records
-pub record Gave (r : Result Head Refusal) (acts : List Activity) (ps : List Pair) (p : Project) : Type 0 where
+-- the call answered with the project p: r is its head, the tables hold its records, and their rest is as it was
+pub record Gave (acts : List Activity) (ps : List Pair) (r : Result Head Refusal) (acts′ : List Activity) (ps′ : List Pair) (p : Project) : Type 0 where
   pub head : r ≡ Ok (head-of p)
-  pub tables : project-of (head-of p) acts ps ≡ p
+  pub activities : acts′ ≡ filled (p .activities) acts
+  pub pairs : ps′ ≡ filled (p .pairs) ps
 
 -- What is wrong with a book.
-
-abbrev pub with-lf : List ℕ → List ℕ
-with-lf l = l ++ lf ∷ []
 
 -- bs is a cover, then the lines ls, and a right trailer that points to them and says `count`
 pub record Framed (bs cover : List ℕ) (ls : List (List ℕ)) (count : ℕ) : Type 0 where
@@ -176,20 +181,10 @@ pub data Unread (z : Sizes) (bs : List ℕ) (n at : ℕ) : Type 0 where
   -- a line of its body has a fault
   faulty : (cover : List ℕ) (ls : List (List ℕ)) (count : ℕ) → Framed bs cover ls count → First-fault z ls (length cover) n at → Unread z bs n at
   -- the trailer counts other lines than there are, or there is no activity
-  miscounted : (cover : List ℕ) (ls : List (List ℕ)) (count : ℕ) → Framed bs cover ls count → (xs : List Content) → Faultless z ls xs → ((count ≡ length ls → ⊥) ⊎ (activities-in xs ≡ 0)) → n ≡ 7 → at ≡ length cover + length (joined with-lf ls) → Unread z bs n at
+  miscounted : (cover : List ℕ) (ls : List (List ℕ)) (count : ℕ) → Framed bs cover ls count → (xs : List Content) → Faultless z ls xs
+    → ((count ≡ length ls → ⊥) ⊎ (activities-in xs ≡ 0)) → n ≡ 7 → at ≡ length cover + length (joined with-lf ls) → Unread z bs n at
 
--- reading refuses a book with the number n at a place exactly when that is its first fault, and the lowest there
-abbrev pub Refuses : Type 0
-Refuses = (z : Sizes) (bs : List ℕ) (n at : ℕ) → (reading z bs ≡ Err (refused n at)) ↔ Unread z bs n at
-
--- What is written reads back as it was, and a book without a cover is written as it was read.
-
-abbrev pub Reads-back : Type 0
-Reads-back = (z : Sizes) (p : Project) → Shaped p → Rules p → length (p .activities) ≤ z .activities → length (p .pairs) ≤ z .pairs → reading z (written 0 p) ≡ Ok p
-
--- what a call wrote, n bytes of `out`, reads back as the project p, into any tables that are long enough
-abbrev pub ReadsBack : Project → Result ℕ Refusal → List ℕ → Type 0
-ReadsBack p r out = (n : ℕ) (z : Sizes) → r ≡ Ok n → length (p .activities) ≤ z .activities → length (p .pairs) ≤ z .pairs → reading z (take n out) ≡ Ok p
-
-abbrev pub Writes-back : Type 0
-Writes-back = (z : Sizes) (bs : List ℕ) (p : Project) (ls : List (List ℕ)) (count : ℕ) → reading z bs ≡ Ok p → Framed bs [] ls count → written 0 p ≡ bs
+-- what a call wrote, n bytes of `out`, is the book of the project p, for any tables that are long enough
+abbrev pub WritesBook : Project → Result ℕ Refusal → List ℕ → Type 0
+WritesBook p r out =
+    (n : ℕ) (z : Sizes) → r ≡ Ok n → length (p .activities) ≤ z .activities → length (p .pairs) ≤ z .pairs → IsBook z (take n out) p

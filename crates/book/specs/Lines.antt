@@ -56,8 +56,12 @@ spaced n = space ∷ decimal n
 abbrev pub spelled : Content → List ℕ
 spelled x = letter (x .kind) ∷ joined spaced (x .numbers)
 
+-- a line's text with the LF that ends it
+abbrev pub with-lf : List ℕ → List ℕ
+with-lf l = l ++ lf ∷ []
+
 abbrev pub line : Content → List ℕ
-line x = spelled x ++ lf ∷ []
+line x = with-lf (spelled x)
 
 -- Reading a line.
 
@@ -98,7 +102,7 @@ numerals (w ∷ ws) = before (numeral w) (numerals ws)
 
 abbrev pub kind-of : ℕ → Option LineKind
 kind-of b =
-    cond (eqb b 67) (Some Capacities) (cond (eqb b 74) (Some Job) (cond (eqb b 65) (Some (Pairing And)) (cond (eqb b 79) (Some (Pairing Or)) (cond (eqb b 66) (Some (Pairing Bi)) (cond (eqb b 90) (Some Trailer) None)))))
+    cond (eqb b (letter Capacities)) (Some Capacities) (cond (eqb b (letter Job)) (Some Job) (cond (eqb b (letter (Pairing And))) (Some (Pairing And)) (cond (eqb b (letter (Pairing Or))) (Some (Pairing Or)) (cond (eqb b (letter (Pairing Bi))) (Some (Pairing Bi)) (cond (eqb b (letter Trailer)) (Some Trailer) None)))))
 
 -- the kind that a first word tells: it is one letter
 abbrev pub kind-word : List ℕ → Option LineKind

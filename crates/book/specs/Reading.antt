@@ -1,7 +1,8 @@
 -- What reading a book answers, line by line. Assumes nothing.
+use mathlib.Core.Path.{_≡_}
 use mathlib.Core.Bool.{Bool, true, false, not, cond, _&&_, _||_}
 use mathlib.Core.List.{List, [], _∷_, _++_}
-use Prim.Native.Nat.{ℕ, suc, _+_, _-_}
+use Prim.Native.Nat.{ℕ, suc, _+_, _-_, _≤_}
 use lib.Dec.{eqb, leb, ltb}
 use lib.ListN.{length, getD, take, drop, replicate}
 use Rattle.std.specs.Holes.{between}
@@ -12,19 +13,16 @@ use Rattle.std.specs.declared.result.Result.the-variants.{Ok, Err}
 use Rattle.std.specs.shelf.Lists.{ending}
 use Rattle.project.specs.Project.{Project, most-activities, most-resources, most-capacity, most-pairs, activity-fits, proper, follows, head-of, filled}
 use Rattle.project.specs.Refusals.{Refused, refused}
+use Rattle.project.specs.declared.refusal.Refusal.{Refusal}
 use Rattle.project.specs.declared.tables.Activity.{Activity}
 use Rattle.project.specs.declared.tables.Head.{Head}
 use Rattle.project.specs.declared.tables.Kind.{Kind}
 use Rattle.project.specs.declared.tables.Kind.the-variants.{Blank}
 use Rattle.project.specs.declared.tables.Pair.{Pair}
+use Rattle.book.specs.Accepted.{Sizes}
 use Rattle.book.specs.declared.lines.LineKind.{LineKind}
 use Rattle.book.specs.declared.lines.LineKind.the-variants.{Capacities, Job, Pairing, Trailer}
 use Rattle.book.specs.Lines.{lf, most-bytes, Content, lines, formed}
-
--- how many records the lent tables have room for
-pub record Sizes : Type 0 where
-  pub activities : ℕ
-  pub pairs : ℕ
 
 -- The project that the lines so far give: none before the C line.
 abbrev pub Sofar : Type 0
@@ -216,5 +214,7 @@ abbrev pub pairs-after : Result Project Refused → List Pair → List Pair
 pairs-after (Ok p) xs = filled (p .pairs) xs
 pairs-after (Err e) xs = replicate (length xs) blank-pair
 
-abbrev pub sizes : List Activity → List Pair → Sizes
-sizes acts ps = record { activities = length acts; pairs = length ps }
+-- what a call wrote, n bytes of `out`, reads back as the project p, into any tables that are long enough
+abbrev pub ReadsBack : Project → Result ℕ Refusal → List ℕ → Type 0
+ReadsBack p r out =
+    (n : ℕ) (z : Sizes) → r ≡ Ok n → length (p .activities) ≤ z .activities → length (p .pairs) ≤ z .pairs → reading z (take n out) ≡ Ok p

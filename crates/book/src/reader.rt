@@ -8,12 +8,12 @@ ghost use lib.ListN.{length, take, replicate};
 ghost use Rattle.std.specs.declared.option.Option.the-variants.{Some, None};
 ghost use Rattle.std.specs.declared.result.Result.the-variants.{Ok, Err};
 ghost use Rattle.project.specs.Project.{Project, within, activity-fits, proper, isBlank, most-activities, most-resources};
-ghost use Rattle.project.specs.Refusals.{refused, answer};
+ghost use Rattle.project.specs.Refusals.{Refused, refused, answer};
 ghost use Rattle.std.specs.Holes.{between};
 ghost use Rattle.std.specs.shelf.Lists.{ending};
-ghost use Rattle.book.specs.Accepted.{IsBook, Gave, Unread, Framed};
+ghost use Rattle.book.specs.Accepted.{IsBook, Gave, Unread, Framed, sizes};
 ghost use Rattle.book.specs.Lines.{formed, most-bytes};
-ghost use Rattle.book.specs.Reading.{judged, sizes, resources-of, not-lf, trailed, trailer, reading, head-answer, activities-after, pairs-after};
+ghost use Rattle.book.specs.Reading.{judged, resources-of, not-lf, trailed, trailer, reading, head-answer, activities-after, pairs-after, blank-activity, blank-pair};
 ghost use Rattle.book.specs.Written.{written};
 ghost use Rattle.book.specs.Steps.{activity-in, pair-in, activity-judged, pair-judged, opening, placed, Ready, activity-more, pair-more, Put, Took, KeptSofar, sofar-of, content-in, trailer-told, closing, resources-known, Reads};
 use crate::lines::Line;
@@ -334,9 +334,10 @@ pub fn read(book: &[u8], activities: &mut [Activity], pairs: &mut [Pair]) -> Res
     ensures value { λ r. ⌜ answer r ≡ head-answer (reading (sizes (now (activities .entry)) (now (pairs .entry))) (now (book .entry))) ⌝ }
     ensures activities { λ r. ⌜ now (activities .exit) ≡ activities-after (reading (sizes (now (activities .entry)) (now (pairs .entry))) (now (book .entry))) (now (activities .entry)) ⌝ }
     ensures pairs { λ r. ⌜ now (pairs .exit) ≡ pairs-after (reading (sizes (now (activities .entry)) (now (pairs .entry))) (now (book .entry))) (now (pairs .entry)) ⌝ }
-    ensures accepts { λ r. ⌜ ((p : Project) → Gave r (now (activities .exit)) (now (pairs .exit)) p ↔ IsBook (sizes (now (activities .entry)) (now (pairs .entry))) (now (book .entry)) p) ⌝ }
+    ensures accepts { λ r. ⌜ ((p : Project) → Gave (now (activities .entry)) (now (pairs .entry)) r (now (activities .exit)) (now (pairs .exit)) p ↔ IsBook (sizes (now (activities .entry)) (now (pairs .entry))) (now (book .entry)) p) ⌝ }
     ensures refuses { λ r. ⌜ ((n at : ℕ) → (answer r ≡ Err (refused n at)) ↔ Unread (sizes (now (activities .entry)) (now (pairs .entry))) (now (book .entry)) n at) ⌝ }
-    ensures written { λ r. ⌜ ((p : Project) → Gave r (now (activities .exit)) (now (pairs .exit)) p → (ls : List (List ℕ)) (count : ℕ) → Framed (now (book .entry)) [] ls count → written 0 p ≡ now (book .entry)) ⌝ }
+    ensures blank { λ r. ⌜ ((e : Refused) → answer r ≡ Err e → (now (activities .exit) ≡ replicate (length (now (activities .entry))) blank-activity) × (now (pairs .exit) ≡ replicate (length (now (pairs .entry))) blank-pair)) ⌝ }
+    ensures written { λ r. ⌜ ((p : Project) → Gave (now (activities .entry)) (now (pairs .entry)) r (now (activities .exit)) (now (pairs .exit)) p → (ls : List (List ℕ)) (count : ℕ) → Framed (now (book .entry)) [] ls count → written 0 p ≡ now (book .entry)) ⌝ }
 {
     let answer = read_project(book, activities, pairs);
     if answer.is_err() {

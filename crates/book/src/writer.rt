@@ -1,13 +1,16 @@
 // Writing the text of a project into lent bytes. The length is counted first, so that a refusal writes nothing.
 ghost use mathlib.Core.List.{[], _∷_};
+ghost use mathlib.Core.Logic.{_↔_};
 ghost use mathlib.Core.Path.{_≡_};
 ghost use Prim.Native.Nat.{_+_, _^_, _<_, _≤_};
 ghost use lib.ListN.{length};
+ghost use Rattle.std.specs.declared.result.Result.the-variants.{Err};
 ghost use Rattle.std.specs.Joined.{joined};
 ghost use Rattle.std.specs.Written.{decimal};
-ghost use Rattle.project.specs.Project.{project-of, most-activities, most-pairs, most-resources};
-ghost use Rattle.project.specs.Refusals.{answer};
-ghost use Rattle.book.specs.Accepted.{ReadsBack};
+ghost use Rattle.project.specs.Project.{Sound, project-of, most-activities, most-pairs, most-resources};
+ghost use Rattle.project.specs.Refusals.{answer, refused};
+ghost use Rattle.book.specs.Accepted.{WritesBook};
+ghost use Rattle.book.specs.Reading.{ReadsBack};
 ghost use Rattle.book.specs.Lines.{letter, spaced};
 ghost use Rattle.book.specs.Parsed.{most-numbers};
 ghost use Rattle.book.specs.Puts.{PutAt, Writable, line-text, line-at, whole-text};
@@ -237,6 +240,8 @@ pub fn write(
 ) -> Result<usize, Refusal>
     ensures value { λ r. ⌜ answer r ≡ writing (now (head .entry)) (now (activities .entry)) (now (pairs .entry)) (now (out .entry)) ⌝ }
     ensures after { λ r. ⌜ now (out .exit) ≡ bytes-after (writing (now (head .entry)) (now (activities .entry)) (now (pairs .entry)) (now (out .entry))) (written 0 (project-of (now (head .entry)) (now (activities .entry)) (now (pairs .entry)))) (now (out .entry)) ⌝ }
+    ensures rules { λ r. ⌜ (answer r ≡ Err (refused 8 0)) ↔ (Sound (now (head .entry)) (now (activities .entry)) (now (pairs .entry)) → ⊥) ⌝ }
+    ensures book { λ r. ⌜ WritesBook (project-of (now (head .entry)) (now (activities .entry)) (now (pairs .entry))) r (now (out .exit)) ⌝ }
     ensures read { λ r. ⌜ ReadsBack (project-of (now (head .entry)) (now (activities .entry)) (now (pairs .entry))) r (now (out .exit)) ⌝ }
 {
     if !keeps_rules(head, activities, pairs) {

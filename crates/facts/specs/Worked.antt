@@ -10,12 +10,9 @@ use Rattle.project.specs.Refusals.{refused}
 use Rattle.project.specs.declared.tables.Activity.{Activity}
 use Rattle.project.specs.declared.tables.Kind.the-variants.{And, Bi}
 use Rattle.project.specs.declared.tables.Pair.{Pair}
-use Rattle.book.specs.Accepted.{with-lf}
-use Rattle.book.specs.Reading.{Sizes, reading}
-
--- tables that have room for every project
-abbrev pub full : Sizes
-full = record { activities = most-activities; pairs = most-pairs }
+use Rattle.book.specs.Lines.{with-lf}
+use Rattle.book.specs.Accepted.{full}
+use Rattle.book.specs.Reading.{reading}
 
 -- a small project with a cover, and its trailer's text
 abbrev pub reel-ending : List ℕ → List ℕ

@@ -3,11 +3,14 @@
 use mathlib.Core.Path.{_≡_, refl, sym, ap, subst, _∙_}
 use mathlib.Core.Bool.{true, cond}
 use mathlib.Core.List.{List, [], _∷_, _++_}
-use mathlib.Core.Logic.{_⊎_, inl, inr}
+use mathlib.Core.Logic.{inl, inr, ⊎-elim}
 use Prim.Native.Nat.{ℕ, _+_, _^_, _≤_, _<_}
 use native.Mathlib.Omega.{arith}
 use lib.Dec.{leb}
 use lib.ListN.{length, take, drop}
+use Rattle.std.specs.Of.Vec.{vec-items}
+use Rattle.std.specs.declared.alloc.Global.{Global}
+use Rattle.std.specs.declared.vec.Vec.{Vec}
 use Rattle.std.specs.Joined.{joined}
 use Rattle.std.specs.Written.{decimal}
 use Rattle.std.specs.declared.result.Result.{Result}
@@ -16,20 +19,22 @@ use Rattle.std.proofs.shelf.Decimals.{decimal-some, decimal-digit}
 use Rattle.std.proofs.shelf.Lists.{length-append, take-at}
 use Rattle.std.proofs.shelf.Tests.{cond-true, le-leb}
 use Rattle.project.specs.Project.{Project, Rules, project-of, head-of, filled, sound, most-activities, most-pairs}
-use Rattle.project.specs.Refusals.{Refused, refused, answer, told}
+use Rattle.project.specs.Refusals.{Refused, refused, answer, told, number, place}
 use Rattle.project.specs.declared.refusal.Refusal.{Refusal}
+use Rattle.project.specs.declared.refusal.Refusal.the-variants.{NotABook, BadForm, OutOfOrder, OverLimit, BadPair, TooMany, WrongCount, RulesBroken, ShortBuffer, NoMemory}
 use Rattle.project.specs.declared.tables.Activity.{Activity}
 use Rattle.project.specs.declared.tables.Head.{Head}
 use Rattle.project.specs.declared.tables.Pair.{Pair}
 use Rattle.project.proofs.Decided.{decides-sound}
-use Rattle.book.specs.Accepted.{IsBook}
+use Rattle.book.specs.Accepted.{full, IsBook, Sizes, sizes}
 use Rattle.book.specs.Lines.{lf, space, most-bytes, line}
-use Rattle.book.specs.Reading.{Sizes, reading, sizes, head-answer, activities-after, pairs-after}
+use Rattle.book.specs.Reading.{reading, head-answer, activities-after, pairs-after}
 use Rattle.book.specs.Written.{body, trailer-line, written, writing, bytes-after}
 use Rattle.book.proofs.Acceptance.{accepts}
 use Rattle.book.proofs.Looping.{held}
+use Rattle.book.proofs.Refusing.{refuses}
 use Rattle.book.proofs.Taking.{answer-ok}
-use Rattle.planner.specs.Response.{full, response, rewritten, Rewrites}
+use Rattle.planner.specs.Response.{response, rewritten, Rewrites, Responds, Means}
 
 -- the trailer of a text without a cover is no longer
 trailer-shorter : (k n : ℕ) → k < 2 ^ 64 → length (line (trailer-line 0 n)) ≤ length (line (trailer-line k n))
@@ -109,3 +114,30 @@ all-text (Ok text) out n out′ h =
     let same : n ≡ length text = cc (h .0) in
     ap Ok (sym (ap (λ k. take k out′) same ∙ ap (take (length text)) (h .1) ∙ take-at text (drop (length text) out) (length text) refl))
 all-text (Err x) out n out′ h = let z : _≡_ {A = ℕ} 0 1 = cc in absurd (omega arith)
+
+-- What the answer means.
+
+told-is : (e : Refusal) → told e ≡ refused (number e) (place e)
+told-is NotABook = refl
+told-is (BadForm p) = refl
+told-is (OutOfOrder p) = refl
+told-is (OverLimit p) = refl
+told-is (BadPair p) = refl
+told-is (TooMany p) = refl
+told-is (WrongCount p) = refl
+told-is RulesBroken = refl
+told-is ShortBuffer = refl
+told-is NoMemory = refl
+
+pub meaning : (bs : List ℕ) (r : Result (Vec ℕ Global) Refusal) → Responds bs r → Means bs r
+meaning bs (Ok v) h = go (reading full bs) refl h
+  where
+    go : (o : Result Project Refused) → reading full bs ≡ o → rewritten o ≡ Ok (vec-items v) → (p : Project) × IsBook full bs p × (vec-items v ≡ written 0 p)
+    go (Ok p) e h = let same : vec-items v ≡ written 0 p = cc in (p, accepts full bs p .0 e, same)
+    go (Err x) e h = let z : _≡_ {A = ℕ} 0 1 = cc in absurd (omega arith)
+meaning bs (Err e) h =
+    ⊎-elim inl (λ k. inr (refuses full bs (number e) (place e) .0 (go (reading full bs) k ∙ ap Err (told-is e)))) h
+  where
+    go : (o : Result Project Refused) → rewritten o ≡ Err (told e) → o ≡ Err (told e)
+    go (Ok p) k = let z : _≡_ {A = ℕ} 0 1 = cc in absurd (omega arith)
+    go (Err x) k = let same : x ≡ told e = cc in ap Err same

@@ -3,7 +3,7 @@ ghost use mathlib.Core.Path.{_≡_};
 ghost use Prim.Native.Nat.{_≤_};
 ghost use lib.ListN.{length};
 ghost use Rattle.project.specs.Project.{most-activities, most-pairs};
-ghost use Rattle.planner.specs.Response.{Responds, Rewrites, response};
+ghost use Rattle.planner.specs.Response.{Responds, Means, Rewrites, response};
 use project::refusal::Refusal;
 use project::refusal::RefusalFromAlloc;
 use project::tables::Activity;
@@ -30,7 +30,8 @@ fn rewrite(
 
 // Answers a book written anew without its cover, or why it is refused.
 pub fn respond(heap: Global, text: &[u8]) -> Result<Vec<u8>, Refusal>
-    ensures { λ r. ⌜ Responds (now (text .entry)) r ⌝ }
+    ensures value { λ r. ⌜ Responds (now (text .entry)) r ⌝ }
+    ensures means { λ r. ⌜ Means (now (text .entry)) r ⌝ }
 {
     let mut activities = vec![in heap; Activity::BLANK; MOST_ACTIVITIES]?;
     let mut pairs = vec![in heap; Pair::BLANK; MOST_PAIRS]?;

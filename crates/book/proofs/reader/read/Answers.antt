@@ -1,6 +1,7 @@
 use mathlib.Core.Path.{_∙_}
-use Rattle.book.specs.Reading.{reading, sizes}
-use Rattle.book.proofs.Answering.{accepts-call, refuses-call, written-call}
+use Rattle.book.specs.Accepted.{sizes}
+use Rattle.book.specs.Reading.{reading}
+use Rattle.book.proofs.Answering.{accepts-call, refuses-call, blank-call, written-call}
 use Rattle.book.proofs.Looping.{refusal, acceptance}
 use Rattle.book.proofs.reader.read.Needs as need
 
@@ -18,6 +19,7 @@ returns-then-is-err c =
       pairs = b;
       accepts = accepts-call bs acts ps _ _ _ (h .0) a b;
       refuses = refuses-call bs acts ps _ _ _ (h .0) a b;
+      blank = blank-call bs acts ps _ _ _ (h .0) a b;
       written = written-call bs acts ps _ _ _ (h .0) a b;
     }
 
@@ -33,5 +35,6 @@ returns-else-is-err c =
       pairs = h .2;
       accepts = accepts-call bs acts ps _ _ _ (h .0) (h .1) (h .2);
       refuses = refuses-call bs acts ps _ _ _ (h .0) (h .1) (h .2);
+      blank = blank-call bs acts ps _ _ _ (h .0) (h .1) (h .2);
       written = written-call bs acts ps _ _ _ (h .0) (h .1) (h .2);
     }

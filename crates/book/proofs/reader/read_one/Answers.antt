@@ -1,7 +1,7 @@
 use native.Mathlib.Omega.{arith}
 use Rattle.std.specs.Holes.{between}
 use Rattle.std.proofs.shelf.Results.{err-from-errBy}
-use Rattle.book.specs.Reading.{sizes}
+use Rattle.book.specs.Accepted.{sizes}
 use Rattle.book.proofs.Numbering.{cut-own, read-cut}
 use Rattle.book.proofs.Reaching.{line-ready, one-read, one-bad, resources-few}
 use Rattle.book.proofs.reader.read_one.Needs as need

@@ -20,13 +20,13 @@ use Rattle.std.proofs.shelf.Elements.{all-append, all-getD, all-from-getD, all-
 use Rattle.std.proofs.shelf.Lists.{append-nil, append-assoc, length-append, length-drop, length-push, length-replicate, length-take-le, map-append, map-push, take-append-drop, take-at, getD-append-left, getD-append-right, getD-drop, getD-past, getD-replicate, getD-take}
 use Rattle.std.proofs.shelf.Tests.{and-parts, and-from, both-ways, false≢true, cases-lt, ltb-true, lt-ltb, cond-false, not-from-true}
 use Rattle.std.proofs.shelf.Ways.{decides-by-and}
-use Rattle.project.specs.Project.{Project, Shaped, Rules, Proper, most-activities, most-resources, most-capacity, most-duration, most-pairs, demand, isBlank, proper, follows, pairs-fit, activity-fits}
+use Rattle.project.specs.Project.{Project, Shaped, Rules, Proper, most-activities, most-resources, most-capacity, most-duration, most-pairs, demand, isBlank, proper, follows, pairs-fit, activity-fits, Once, Few}
 use Rattle.project.specs.Refusals.{refused}
 use Rattle.project.specs.declared.tables.Activity.{Activity}
 use Rattle.project.specs.declared.tables.Kind.the-variants.{Blank}
 use Rattle.project.specs.declared.tables.Pair.{Pair}
 use Rattle.project.proofs.Numbers.{decides-leb, decides-activity}
-use Rattle.project.proofs.Pairs.{Once, Few, decides-proper, decides-follows, decides-pairs}
+use Rattle.project.proofs.Pairs.{decides-proper, decides-follows, decides-pairs}
 use Rattle.book.specs.declared.lines.LineKind.{LineKind}
 use Rattle.book.specs.declared.lines.LineKind.the-variants.{Capacities, Job, Pairing, Trailer}
 use Rattle.book.specs.Accepted.{Sayable, Sizes}

@@ -1,10 +1,10 @@
 -- The trailer, as the code finds it. Assumes nothing.
-use mathlib.Core.Path.{_≡_, refl, sym, ap, subst, _∙_}
-use mathlib.Core.Bool.{Bool, true, false, _&&_}
-use mathlib.Core.List.{List, [], _∷_, _++_}
-use Prim.Native.Nat.{ℕ, _+_, _-_, _≤_, _<_}
+use mathlib.Core.Path.{_≡_, refl, sym, ap, _∙_}
+use mathlib.Core.Bool.{_&&_}
+use mathlib.Core.List.{List}
+use Prim.Native.Nat.{ℕ, _-_, _≤_}
 use native.Mathlib.Omega.{arith}
-use lib.Dec.{leb, eqb}
+use lib.Dec.{leb}
 use lib.ListN.{length, getD, take, drop}
 use Rattle.std.specs.Holes.{between}
 use Rattle.std.specs.declared.option.Option.{Option}
@@ -22,7 +22,7 @@ use Rattle.book.specs.declared.lines.Numbers.{Numbers}
 use Rattle.book.specs.Lines.{Content, formed, most-bytes, lf}
 use Rattle.book.specs.Parsed.{Holds, LineRead}
 use Rattle.book.specs.Reading.{not-lf, ends-in-lf, but-last, last-line, pointed, trailed, trailed-by, trailer}
-use Rattle.book.specs.Steps.{numbers-of, content-in}
+use Rattle.book.specs.Steps.{numbers-of}
 use Rattle.book.proofs.Reaching.{line-content}
 use Rattle.book.proofs.Taking.{value-at}
 

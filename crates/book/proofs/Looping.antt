@@ -2,7 +2,7 @@
 use mathlib.Core.Path.{_≡_, refl, sym, ap, subst, _∙_}
 use mathlib.Core.Bool.{Bool, true, false, not, cond, _&&_}
 use mathlib.Core.List.{List, [], _∷_, _++_, append-assoc}
-use Prim.Native.Nat.{ℕ, zero, suc, _+_, _-_, _≤_, _<_}
+use Prim.Native.Nat.{ℕ, suc, _+_, _-_, _≤_, _<_}
 use native.Mathlib.Numerals.{add-one, one-add}
 use native.Mathlib.Omega.{arith}
 use lib.Dec.{eqb, leb}
@@ -15,7 +15,7 @@ use Rattle.std.specs.declared.option.Option.the-variants.{Some, None}
 use Rattle.std.specs.declared.result.Result.{Result}
 use Rattle.std.specs.declared.result.Result.the-variants.{Ok, Err}
 use Rattle.std.specs.shelf.Lists.{All, leading}
-use Rattle.std.proofs.shelf.Lists.{length-append, length-drop, length-push, length-take-le, drop-at, drop-drop, take-at, take-append-drop}
+use Rattle.std.proofs.shelf.Lists.{length-append, length-push, length-take-le, drop-at, drop-drop, take-at}
 use Rattle.std.proofs.shelf.Tests.{ne-eqb, true≢false}
 use Rattle.project.specs.Project.{Project, project-of, head-of, filled}
 use Rattle.project.specs.Refusals.{Refused, refused, answer}

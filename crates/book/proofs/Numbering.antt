@@ -1,22 +1,22 @@
 -- The numbers of a line, word by word. Assumes nothing.
 use mathlib.Core.Path.{_≡_, refl, sym, ap, subst, _∙_}
-use mathlib.Core.Bool.{Bool, true, false, cond, _&&_}
+use mathlib.Core.Bool.{Bool, true, false, cond}
 use mathlib.Core.List.{List, [], _∷_, _++_, append-nil, append-assoc}
-use Prim.Native.Nat.{ℕ, suc, _+_, _-_, _≤_, _<_}
+use Prim.Native.Nat.{ℕ, _+_, _-_, _≤_, _<_}
 use native.Mathlib.Omega.{arith}
 use lib.Dec.{leb}
 use lib.ListN.{length, take, drop, set, replicate}
 use Rattle.std.specs.declared.option.Option.{Option}
 use Rattle.std.specs.declared.option.Option.the-variants.{Some, None}
 use Rattle.std.proofs.shelf.Lists.{take-more-set, drop-set-lt, drop-replicate, drop-drop, length-set, length-append, length-take-le, take-append-drop}
-use Rattle.std.proofs.shelf.Tests.{cond-true, cond-false, and-from, and-left, and-right, le-leb, lt-leb}
+use Rattle.std.proofs.shelf.Tests.{cond-true, cond-false, and-from, and-right, le-leb, lt-leb}
 use Rattle.std.specs.declared.result.Result.{Result}
 use Rattle.std.specs.declared.result.Result.the-variants.{Ok, Err}
 use Rattle.project.specs.declared.refusal.Refusal.{Refusal}
 use Rattle.project.specs.declared.refusal.Refusal.the-variants.{BadForm}
 use Rattle.book.specs.Lines.{before, numeral, numerals, content, content-of, counted, if-counted, fewest, most, formed}
 use Rattle.book.specs.Cuts.{text, left, place-of, number-of, kind-told, InBook, Taken, LetterCut, Cut}
-use Rattle.book.specs.Parsed.{Holds, in-range, NumbersRead, LineRead}
+use Rattle.book.specs.Parsed.{most-numbers, Holds, in-range, NumbersRead, LineRead}
 use Rattle.book.specs.declared.words.Word.{Word}
 use Rattle.book.specs.declared.words.Words.{Words}
 use Rattle.book.specs.declared.lines.Line.{Line}
@@ -31,16 +31,9 @@ after-these ns (Some ms) = Some (ns ++ ms)
 -- i numbers were read of the words ws, and us are left
 pub record Sofar (ws us : Words) (values : List ℕ) (i : ℕ) : Type 0 where
   pub all : numerals (left ws) ≡ after-these (take i values) (numerals (left us))
-  pub zeros : drop i values ≡ replicate (5 - i) 0
-  pub long : length values ≡ 5
+  pub zeros : drop i values ≡ replicate (most-numbers - i) 0
+  pub long : length values ≡ most-numbers
   pub lies : InBook us
-
-pub none-yet : (ws : Words) → InBook ws → Sofar ws ws (replicate 5 0) 0
-none-yet ws h = record { all = sym (same (numerals (left ws))); zeros = refl; long = refl; lies = h }
-  where
-    same : (o : Option (List ℕ)) → after-these [] o ≡ o
-    same None = refl
-    same (Some ns) = refl
 
 front-more : (ns : List ℕ) (n : ℕ) (o : Option (List ℕ)) → after-these ns (before (Some n) o) ≡ after-these (ns ++ n ∷ []) o
 front-more ns n None = refl
@@ -48,27 +41,22 @@ front-more ns n (Some ms) = ap Some (sym (append-assoc ns (n ∷ []) ms))
 
 module _ {ws us vs : Words} {values : List ℕ} {i : ℕ} (so : Sofar ws us values i) where
   -- one number more
-  pub one-more : (w : Word) (n : ℕ) → i < 5 → Taken us vs w → number-of w ≡ Some n → Sofar ws vs (set values i n) (i + 1)
+  pub one-more : (w : Word) (n : ℕ) → i < most-numbers → Taken us vs w → number-of w ≡ Some n → Sofar ws vs (set values i n) (i + 1)
   one-more w n lt t is =
       let long = so .long in
       let num : numeral (text w) ≡ Some n = sym (t .tells) ∙ is in
       record {
         all = so .all ∙ ap (λ l. after-these (take i values) (numerals l)) (t .cut) ∙ ap (λ o. after-these (take i values) (before o (numerals (left vs)))) num ∙ front-more (take i values) n (numerals (left vs)) ∙ ap (λ l. after-these l (numerals (left vs))) (sym (take-more-set values i n (omega arith)));
-        zeros = drop-set-lt (i + 1) values i n (omega arith) ∙ sym (drop-drop 1 i values) ∙ ap (drop 1) (so .zeros) ∙ drop-replicate 1 (5 - i) 0 ∙ ap (λ k. replicate k 0) (the-rest lt);
+        zeros = drop-set-lt (i + 1) values i n (omega arith) ∙ sym (drop-drop 1 i values) ∙ ap (drop 1) (so .zeros) ∙ drop-replicate 1 (most-numbers - i) 0 ∙ ap (λ k. replicate k 0) (the-rest lt);
         long = length-set values i n ∙ so .long;
         lies = t .lies;
       }
     where
-      the-rest : i < 5 → 5 - i - 1 ≡ 5 - (i + 1)
+      the-rest : i < most-numbers → most-numbers - i - 1 ≡ most-numbers - (i + 1)
       the-rest lt = omega arith
 
-  -- a word that is no number
-  pub no-number : (w : Word) (f m : ℕ) → Taken us vs w → number-of w ≡ None → in-range f m (numerals (left ws)) ≡ None
-  no-number w f m t is =
-      ap (in-range f m) (so .all ∙ ap (λ l. after-these (take i values) (numerals l)) (t .cut) ∙ ap (λ o. after-these (take i values) (before o (numerals (left vs)))) (sym (t .tells) ∙ is))
-
   -- a word more than there may be
-  pub too-many : (w : Word) (f m : ℕ) → m ≤ i → i ≤ 5 → Taken us vs w → in-range f m (numerals (left ws)) ≡ None
+  pub too-many : (w : Word) (f m : ℕ) → m ≤ i → i ≤ most-numbers → Taken us vs w → in-range f m (numerals (left ws)) ≡ None
   too-many w f m full le t =
       ap (in-range f m) (so .all ∙ ap (λ l. after-these (take i values) (numerals l)) (t .cut)) ∙ past (numeral (text w)) (numerals (left vs))
     where
@@ -81,7 +69,7 @@ module _ {ws us vs : Words} {values : List ℕ} {i : ℕ} (so : Sofar ws us valu
           cond-false _ _ _ (and-right (leb f (length (take i values ++ n ∷ ns))) _ (lt-leb _ _ (omega arith)))
 
 -- no word is left, and there are enough
-module _ {ws us : Words} {values : List ℕ} {i : ℕ} (so : Sofar ws us values i) (le : i ≤ 5) (ends : left us ≡ []) where
+module _ {ws us : Words} {values : List ℕ} {i : ℕ} (so : Sofar ws us values i) (le : i ≤ most-numbers) (ends : left us ≡ []) where
   the-numbers : numerals (left ws) ≡ Some (take i values)
   the-numbers = so .all ∙ ap (λ l. after-these (take i values) (numerals l)) ends ∙ ap Some (append-nil (take i values))
 
@@ -93,18 +81,13 @@ module _ {ws us : Words} {values : List ℕ} {i : ℕ} (so : Sofar ws us values 
       let k = the-length in
       ap (in-range f m) the-numbers ∙ cond-true _ _ _ (and-from _ _ (le-leb f _ (omega arith)) (le-leb _ m (omega arith)))
 
-  pub too-few : (f m : ℕ) → i < f → in-range f m (numerals (left ws)) ≡ None
-  too-few f m a =
-      let k = the-length in
-      ap (in-range f m) the-numbers ∙ cond-false _ _ _ (and-left _ (leb (length (take i values)) m) (lt-leb f _ (omega arith)))
-
   holds : (v : Numbers) → v .count ≡ i → v .values ≡ values → Holds v (take i values)
   holds v a b =
       let k = the-length in
       record {
         count = a ∙ sym k;
         few = omega arith;
-        values = b ∙ sym (take-append-drop i values) ∙ ap (λ l. take i values ++ l) (so .zeros) ∙ ap (λ n. take i values ++ replicate (5 - n) 0) (sym k);
+        values = b ∙ sym (take-append-drop i values) ∙ ap (λ l. take i values ++ l) (so .zeros) ∙ ap (λ n. take i values ++ replicate (most-numbers - n) 0) (sym k);
       }
 
   pub read-all : (f m place : ℕ) (v : Numbers) → f ≤ i → i ≤ m → v .count ≡ i → v .values ≡ values → NumbersRead (in-range f m (numerals (left ws))) place (Ok v)

@@ -1,19 +1,18 @@
 -- From the reader's definition to what the loop over the lines keeps. Assumes nothing.
 use mathlib.Core.Path.{_≡_, refl, sym, ap, subst, _∙_}
-use mathlib.Core.Bool.{Bool, true, false, not}
-use mathlib.Core.List.{List, [], _∷_, _++_}
-use Prim.Native.Nat.{ℕ, _+_, _-_, _≤_, _<_}
+use mathlib.Core.Bool.{true}
+use mathlib.Core.List.{List}
+use Prim.Native.Nat.{ℕ, _-_, _≤_}
 use native.Mathlib.Omega.{arith}
-use lib.ListN.{length, take, drop, replicate}
+use lib.ListN.{length, take, replicate}
 use Rattle.std.specs.declared.option.Option.{Option}
 use Rattle.std.specs.declared.option.Option.the-variants.{Some, None}
 use Rattle.std.specs.declared.result.Result.{Result}
 use Rattle.std.specs.declared.result.Result.the-variants.{Ok, Err}
 use Rattle.std.proofs.shelf.Lists.{take-at}
 use Rattle.project.specs.Project.{most-resources}
-use Rattle.project.specs.Refusals.{refused, answer}
+use Rattle.project.specs.Refusals.{answer}
 use Rattle.project.specs.declared.refusal.Refusal.{Refusal}
-use Rattle.project.specs.declared.refusal.Refusal.the-variants.{BadForm}
 use Rattle.project.specs.declared.tables.Activity.{Activity}
 use Rattle.project.specs.declared.tables.Head.{Head}
 use Rattle.project.specs.declared.tables.Kind.the-variants.{Blank, And, Or, Bi}
@@ -22,11 +21,11 @@ use Rattle.book.specs.declared.lines.Line.{Line}
 use Rattle.book.specs.declared.lines.LineKind.{LineKind}
 use Rattle.book.specs.declared.lines.LineKind.the-variants.{Capacities, Job, Pairing, Trailer}
 use Rattle.book.specs.declared.lines.Numbers.{Numbers}
-use Rattle.book.specs.Lines.{Content, fewest, most, formed}
+use Rattle.book.specs.Lines.{Content, most, formed}
 use Rattle.book.specs.Parsed.{most-numbers, Holds, LineRead}
-use Rattle.book.specs.Accepted.{Sizes, sizes}
+use Rattle.book.specs.Accepted.{Sizes}
 use Rattle.book.specs.Reading.{resources-of, judged}
-use Rattle.book.specs.Steps.{sofar-of, resources-known, Kept, KeptSofar, numbers-of, content-in, lettered, Ready, Took}
+use Rattle.book.specs.Steps.{sofar-of, resources-known, KeptSofar, numbers-of, content-in, lettered, Ready, Took}
 use Rattle.book.proofs.Spelling.{formed-says}
 
 -- What the line reader hands on is what the line says.

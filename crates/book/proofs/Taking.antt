@@ -11,22 +11,22 @@ use Rattle.std.specs.declared.option.Option.{Option}
 use Rattle.std.specs.declared.option.Option.the-variants.{Some, None}
 use Rattle.std.specs.declared.result.Result.{Result}
 use Rattle.std.specs.declared.result.Result.the-variants.{Ok, Err}
-use Rattle.std.proofs.shelf.Lists.{length-take-le, length-push, length-set, length-append, length-replicate, set-split, take-append-drop, append-assoc as append-assoc-list, take-at, drop-replicate, drop-append-le, take-append-le, getD-append-left, getD-append-right, getD-replicate, take-replicate}
-use Rattle.std.proofs.shelf.Tests.{and-from, and-parts, ltb-true, lt-ltb, le-ltb, le-leb}
-use Rattle.project.specs.Project.{Project, project-of, head-of, filled, most-activities, most-resources, most-capacity, most-pairs, activity-fits, proper, follows, within}
-use Rattle.project.specs.Refusals.{refused, answer}
+use Rattle.std.proofs.shelf.Lists.{length-take-le, length-push, length-set, length-append, length-replicate, set-split, take-append-drop, take-replicate}
+use Rattle.std.proofs.shelf.Tests.{and-from, and-parts, ltb-true, lt-ltb, le-leb}
+use Rattle.project.specs.Project.{Project, project-of, filled, most-activities, most-resources, most-capacity, most-pairs, activity-fits, proper, follows, within}
+use Rattle.project.specs.Refusals.{answer}
 use Rattle.project.specs.declared.refusal.Refusal.{Refusal}
 use Rattle.project.specs.declared.tables.Activity.{Activity}
 use Rattle.project.specs.declared.tables.Head.{Head}
 use Rattle.project.specs.declared.tables.Kind.{Kind}
 use Rattle.project.specs.declared.tables.Pair.{Pair}
 use Rattle.book.specs.declared.lines.LineKind.{LineKind}
-use Rattle.book.specs.declared.lines.LineKind.the-variants.{Capacities, Job, Pairing, Trailer}
+use Rattle.book.specs.declared.lines.LineKind.the-variants.{Capacities, Job, Pairing}
 use Rattle.book.specs.declared.lines.Numbers.{Numbers}
 use Rattle.book.specs.Parsed.{most-numbers, Holds}
 use Rattle.book.specs.Accepted.{sizes}
 use Rattle.book.specs.Reading.{padded, activity-of, pair-of, opened, with-activity, with-pair, isNil, at-most, judged}
-use Rattle.book.specs.Steps.{sofar-of, Kept, KeptSofar, numbers-of, activity-in, pair-in, opening, activity-judged, pair-judged, activity-more, pair-more, placed, Put, Took}
+use Rattle.book.specs.Steps.{sofar-of, Kept, KeptSofar, numbers-of, activity-in, opening, activity-judged, pair-judged, activity-more, pair-more, placed, Put, Took}
 
 module _ {A : Type 0} (xs : List A) (n : ℕ) where
   pub filled-push : (a : A) → n < length xs → filled (take n xs ++ a ∷ []) xs ≡ set xs n a
@@ -79,7 +79,7 @@ module _ (vs ns : List ℕ) (few : length ns ≤ most-numbers) (is : vs ≡ ns +
   pub activity-is : activity-in vs ≡ activity-of ns
   activity-is = λ i. record { duration = value-at 0 (omega arith) i; demands = demands-are i }
 
-  pub pair-is : (k : Kind) → pair-in k vs ≡ pair-of k ns
+  pub pair-is : (k : Kind) → pair-of k vs ≡ pair-of k ns
   pair-is k = λ i. record { kind = k; first = value-at 0 (omega arith) i; second = value-at 1 (omega arith) i }
 
 -- A J line.
@@ -134,14 +134,14 @@ module _ (h : Head) (acts : List Activity) (ps : List Pair) (kept : Kept h acts 
       subst (λ j. Took (cond (not (proper j (pair-of k (numbers-of v)) && follows (take (h .pairs) ps) (pair-of k (numbers-of v)))) (Err 5) (cond (not (ltb (length (take (h .pairs) ps)) most-pairs && ltb (length (take (h .pairs) ps)) (length ps))) (Err 6) (Ok (with-pair (project-of h acts ps) (pair-of k (numbers-of v)))))) place acts ps r acts ps′) (sym n)
       (subst (λ j. Took (cond (not (proper (h .activities) (pair-of k (numbers-of v)) && follows (take (h .pairs) ps) (pair-of k (numbers-of v)))) (Err 5) (cond (not (ltb j most-pairs && ltb j (length ps))) (Err 6) (Ok (with-pair (project-of h acts ps) (pair-of k (numbers-of v)))))) place acts ps r acts ps′) (sym m)
       (subst (λ q. Took (cond (not (proper (h .activities) q && follows (take (h .pairs) ps) q)) (Err 5) (cond (not (ltb (h .pairs) most-pairs && ltb (h .pairs) (length ps))) (Err 6) (Ok (with-pair (project-of h acts ps) q)))) place acts ps r acts ps′) pair
-      (go (proper (h .activities) (pair-in k (v .values)) && follows (take (h .pairs) ps) (pair-in k (v .values))) (ltb (h .pairs) most-pairs && ltb (h .pairs) (length ps)) refl put)))
+      (go (proper (h .activities) (pair-of k (v .values)) && follows (take (h .pairs) ps) (pair-of k (v .values))) (ltb (h .pairs) most-pairs && ltb (h .pairs) (length ps)) refl put)))
     where
-      go : (f u : Bool) → (ltb (h .pairs) most-pairs && ltb (h .pairs) (length ps)) ≡ u → Put (cond f (cond u (Ok (pair-in k (v .values))) (Err 6)) (Err 5)) place (pair-more h) (h .pairs) ps r ps′ → Took (cond (not f) (Err 5) (cond (not u) (Err 6) (Ok (with-pair (project-of h acts ps) (pair-in k (v .values)))))) place acts ps r acts ps′
+      go : (f u : Bool) → (ltb (h .pairs) most-pairs && ltb (h .pairs) (length ps)) ≡ u → Put (cond f (cond u (Ok (pair-of k (v .values))) (Err 6)) (Err 5)) place (pair-more h) (h .pairs) ps r ps′ → Took (cond (not f) (Err 5) (cond (not u) (Err 6) (Ok (with-pair (project-of h acts ps) (pair-of k (v .values)))))) place acts ps r acts ps′
       go false u e put = put .0
       go true false e put = put .0
       go true true e put =
           let b = and-parts (ltb (h .pairs) most-pairs) (ltb (h .pairs) (length ps)) e in
-          took-pair (pair-in k (v .values)) r ps′ (ltb-true _ _ (b .1)) (put .0) (put .1)
+          took-pair (pair-of k (v .values)) r ps′ (ltb-true _ _ (b .1)) (put .0) (put .1)
 
 -- A C line.
 

@@ -9,10 +9,9 @@ use lib.Dec.{eqb}
 use lib.ListN.{length, getD, take}
 use Rattle.std.specs.Joined.{joined}
 use Rattle.std.specs.declared.result.Result.{Result}
-use Rattle.std.specs.declared.result.Result.the-variants.{Ok, Err}
+use Rattle.std.specs.declared.result.Result.the-variants.{Ok}
 use Rattle.std.specs.shelf.Lists.{All, Has, countBy}
 use Rattle.project.specs.Project.{Project, head-of, filled, Shaped, Rules, isOr, most-activities, most-capacity, most-duration, most-pairs, most-or-predecessors}
-use Rattle.project.specs.Refusals.{refused}
 use Rattle.project.specs.declared.refusal.Refusal.{Refusal}
 use Rattle.project.specs.declared.tables.Activity.{Activity}
 use Rattle.project.specs.declared.tables.Head.{Head}
@@ -182,7 +181,7 @@ pub data Unread (z : Sizes) (bs : List ℕ) (n at : ℕ) : Type 0 where
   faulty : (cover : List ℕ) (ls : List (List ℕ)) (count : ℕ) → Framed bs cover ls count → First-fault z ls (length cover) n at → Unread z bs n at
   -- the trailer counts other lines than there are, or there is no activity
   miscounted : (cover : List ℕ) (ls : List (List ℕ)) (count : ℕ) → Framed bs cover ls count → (xs : List Content) → Faultless z ls xs
-    → ((count ≡ length ls → ⊥) ⊎ (activities-in xs ≡ 0)) → n ≡ 7 → at ≡ length cover + length (joined with-lf ls) → Unread z bs n at
+      → ((count ≡ length ls → ⊥) ⊎ (activities-in xs ≡ 0)) → n ≡ 7 → at ≡ length cover + length (joined with-lf ls) → Unread z bs n at
 
 -- what a call wrote, n bytes of `out`, is the book of the project p, for any tables that are long enough
 abbrev pub WritesBook : Project → Result ℕ Refusal → List ℕ → Type 0

@@ -1,8 +1,8 @@
 -- One line taken into the lent tables, by the head and the tables so far. Assumes nothing.
 use mathlib.Core.Path.{_≡_}
-use mathlib.Core.Bool.{Bool, true, false, not, cond, _&&_}
-use mathlib.Core.List.{List, [], _∷_, _++_}
-use Prim.Native.Nat.{ℕ, _+_, _-_, _≤_}
+use mathlib.Core.Bool.{Bool, true, not, cond, _&&_}
+use mathlib.Core.List.{List}
+use Prim.Native.Nat.{ℕ, _+_, _≤_}
 use lib.Dec.{eqb, leb, ltb}
 use lib.ListN.{length, getD, take, drop, set, replicate}
 use Rattle.std.specs.declared.option.Option.{Option}
@@ -17,8 +17,8 @@ use Rattle.project.specs.declared.tables.Head.{Head}
 use Rattle.project.specs.declared.tables.Kind.{Kind}
 use Rattle.project.specs.declared.tables.Pair.{Pair}
 use Rattle.book.specs.Lines.{Content}
-use Rattle.book.specs.Parsed.{most-numbers, Holds}
-use Rattle.book.specs.Reading.{Sofar, Trailed}
+use Rattle.book.specs.Parsed.{Holds}
+use Rattle.book.specs.Reading.{Sofar, Trailed, pair-of}
 use Rattle.book.specs.declared.reader.Trailer.{Trailer as Found}
 use Rattle.book.specs.declared.lines.Line.{Line}
 use Rattle.book.specs.declared.lines.LineKind.{LineKind}
@@ -56,9 +56,6 @@ content-in l = record { kind = l .kind; numbers = numbers-of (l .numbers) }
 abbrev pub activity-in : List ℕ → Activity
 activity-in vs = record { duration = getD vs 0 0; demands = take most-resources (drop 1 vs) }
 
-abbrev pub pair-in : Kind → List ℕ → Pair
-pair-in k vs = record { kind = k; first = getD vs 0 0; second = getD vs 1 0 }
-
 -- the head that a C line gives, or the number of what is wrong with it
 abbrev pub opening : Numbers → Result Head ℕ
 opening v =
@@ -71,7 +68,7 @@ activity-judged h vs acts =
 
 abbrev pub pair-judged : Head → Kind → List ℕ → List Pair → Result Pair ℕ
 pair-judged h k vs ps =
-    cond (proper (h .activities) (pair-in k vs) && follows (take (h .pairs) ps) (pair-in k vs)) (cond (ltb (h .pairs) most-pairs && ltb (h .pairs) (length ps)) (Ok (pair-in k vs)) (Err 6)) (Err 5)
+    cond (proper (h .activities) (pair-of k vs) && follows (take (h .pairs) ps) (pair-of k vs)) (cond (ltb (h .pairs) most-pairs && ltb (h .pairs) (length ps)) (Ok (pair-of k vs)) (Err 6)) (Err 5)
 
 abbrev pub activity-more : Head → Head
 activity-more h = record { activities = h .activities + 1; resources = h .resources; capacities = h .capacities; pairs = h .pairs }

@@ -9,14 +9,12 @@ use crate::words::Word;
 use crate::words::Words;
 use project::refusal::Refusal;
 use project::tables::Kind;
-use project::tables::KindDebug;
-use project::tables::KindPartialEq;
 use project::tables::MOST_RESOURCES;
 
 // The most numbers of a line: a duration and a demand for each resource.
 pub(crate) const MOST_NUMBERS: usize = MOST_RESOURCES + 1;
 
-#[derive(Clone, Copy, Debug, PartialEq, Eq)]
+#[derive(Clone, Copy)]
 pub(crate) enum LineKind {
     Capacities,
     Job,

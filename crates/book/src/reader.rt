@@ -13,9 +13,9 @@ ghost use Rattle.std.specs.Holes.{between};
 ghost use Rattle.std.specs.shelf.Lists.{ending};
 ghost use Rattle.book.specs.Accepted.{IsBook, Gave, Unread, Framed, sizes};
 ghost use Rattle.book.specs.Lines.{formed, most-bytes};
-ghost use Rattle.book.specs.Reading.{judged, resources-of, not-lf, trailed, trailer, reading, head-answer, activities-after, pairs-after, blank-activity, blank-pair};
+ghost use Rattle.book.specs.Reading.{judged, resources-of, not-lf, trailed, trailer, reading, head-answer, activities-after, pairs-after, blank-activity, blank-pair, pair-of};
 ghost use Rattle.book.specs.Written.{written};
-ghost use Rattle.book.specs.Steps.{activity-in, pair-in, activity-judged, pair-judged, opening, placed, Ready, activity-more, pair-more, Put, Took, KeptSofar, sofar-of, content-in, trailer-told, closing, resources-known, Reads};
+ghost use Rattle.book.specs.Steps.{activity-in, activity-judged, pair-judged, opening, placed, Ready, activity-more, pair-more, Put, Took, KeptSofar, sofar-of, content-in, trailer-told, closing, resources-known, Reads};
 use crate::lines::Line;
 use crate::lines::LineKind;
 use crate::lines::MOST_NUMBERS;
@@ -41,7 +41,7 @@ use project::tables::Pair;
 pub const MOST_BYTES: usize = 65_535;
 
 // The trailer's own place, and what it says: where the body starts, and how many lines it has.
-#[derive(Clone, Copy)]
+#[derive(Drop)]
 struct Trailer {
     place: usize,
     start: usize,
@@ -84,7 +84,7 @@ fn activity_of(values: &[u32; MOST_NUMBERS], capacities: &[u8; MOST_RESOURCES]) 
 fn pair_of(kind: Kind, values: &[u32; MOST_NUMBERS], activities: usize) -> Option<Pair>
     requires kind { ⌜ isBlank kind ≡ false ⌝ }
     requires few { ⌜ activities ≤ most-activities ⌝ }
-    ensures { λ r. ⌜ r ≡ cond (proper activities (pair-in kind (now (values .entry)))) (Some (pair-in kind (now (values .entry)))) None ⌝ }
+    ensures { λ r. ⌜ r ≡ cond (proper activities (pair-of kind (now (values .entry)))) (Some (pair-of kind (now (values .entry)))) None ⌝ }
 {
     let first = values[0];
     let second = values[1];

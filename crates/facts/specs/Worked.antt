@@ -5,11 +5,10 @@ use Prim.Native.Nat.{ℕ}
 use lib.Chars.{codes}
 use Rattle.std.specs.Joined.{joined}
 use Rattle.std.specs.declared.result.Result.the-variants.{Ok, Err}
-use Rattle.project.specs.Project.{Project, most-activities, most-pairs}
+use Rattle.project.specs.Project.{Project}
 use Rattle.project.specs.Refusals.{refused}
 use Rattle.project.specs.declared.tables.Activity.{Activity}
 use Rattle.project.specs.declared.tables.Kind.the-variants.{And, Bi}
-use Rattle.project.specs.declared.tables.Pair.{Pair}
 use Rattle.book.specs.Lines.{with-lf}
 use Rattle.book.specs.Accepted.{full}
 use Rattle.book.specs.Reading.{reading}
@@ -33,5 +32,9 @@ reel = record {
 pub record Worked : Type 0 where
   -- the reel reads
   pub reads : reading full (reel-ending (codes "Z 7 6")) ≡ Ok reel
-  -- its trailer may point to no other place
+  -- at byte 6 no line starts
   pub unread : reading full (reel-ending (codes "Z 6 6")) ≡ Err (refused 1 0)
+  -- at byte 0 one does, but it is no C line
+  pub overrun : reading full (reel-ending (codes "Z 0 7")) ≡ Err (refused 2 0)
+  -- a book that points past its body has none
+  pub empty : reading full (reel-ending (codes "Z 41 0")) ≡ Err (refused 7 41)

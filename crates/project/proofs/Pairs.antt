@@ -3,7 +3,7 @@ use mathlib.Core.Path.{_≡_, refl, sym, ap, subst, _∙_}
 use mathlib.Core.Logic.{⊎-elim}
 use mathlib.Core.Bool.{Bool, true, not, _&&_, _||_, cond}
 use mathlib.Core.List.{List, [], _∷_, _++_}
-use Prim.Native.Nat.{ℕ, _+_, _≤_, _<_}
+use Prim.Native.Nat.{ℕ, _+_, _<_}
 use native.Mathlib.Omega.{arith}
 use lib.Dec.{leb, ltb, eqb}
 use lib.ListN.{length, getD}
@@ -14,16 +14,8 @@ use Rattle.std.proofs.shelf.Sums.{sumBy-push, sumBy-append}
 use Rattle.std.proofs.shelf.Tests.{and-parts, and-from, leb-true, le-leb, ltb-true, lt-ltb, eqb-true, eq-eqb, not-true, not-from-false, or-cases, or-left, or-right, cases-bool, cases-lt, both-ways}
 use Rattle.std.proofs.shelf.Ways.{decides-not, decides-by-or}
 use Rattle.project.specs.declared.tables.Pair.{Pair}
-use Rattle.project.specs.Project.{most-or-predecessors, isBlank, isOr, or-into, or-predecessors, Proper, same-pair, among, proper, follows, pairs-fit}
+use Rattle.project.specs.Project.{most-or-predecessors, isBlank, isOr, or-into, or-predecessors, Once, Few, Proper, same-pair, among, proper, follows, pairs-fit}
 use Rattle.project.proofs.Same.{decides-same}
-
--- no pair stands twice
-abbrev pub Once : List Pair → Type 0
-Once ps = (i j : ℕ) (d : Pair) → i < j → j < length ps → getD ps i d ≡ getD ps j d → ⊥
-
--- no activity has an OR predecessor too many
-abbrev pub Few : List Pair → Type 0
-Few ps = (j : ℕ) → or-predecessors j ps ≤ most-or-predecessors
 
 pub decides-proper : (n : ℕ) (q : Pair) → Decides (proper n q) (Proper n q)
 decides-proper n q = (

@@ -81,6 +81,14 @@ or-into j q = isOr (q .kind) && eqb (q .second) j
 abbrev pub or-predecessors : ℕ → List Pair → ℕ
 or-predecessors j ps = countBy (or-into j) ps
 
+-- no pair stands twice
+abbrev pub Once : List Pair → Type 0
+Once ps = (i j : ℕ) (d : Pair) → i < j → j < length ps → getD ps i d ≡ getD ps j d → ⊥
+
+-- no activity has an OR predecessor too many
+abbrev pub Few : List Pair → Type 0
+Few ps = (j : ℕ) → or-predecessors j ps ≤ most-or-predecessors
+
 -- q has one of the three kinds, and names two of n activities, the lower first
 pub record Proper (n : ℕ) (q : Pair) : Type 0 where
   pub kind : isBlank (q .kind) ≡ false
@@ -100,8 +108,8 @@ pub record Rules (p : Project) : Type 0 where
   pub demands : All (λ a. (k : ℕ) → demand a k ≤ capacity p k) (p .activities)
   pub pairs : length (p .pairs) ≤ most-pairs
   pub proper : All (Proper (length (p .activities))) (p .pairs)
-  pub once : (i j : ℕ) (d : Pair) → i < j → j < length (p .pairs) → getD (p .pairs) i d ≡ getD (p .pairs) j d → ⊥
-  pub or-few : (j : ℕ) → or-predecessors j (p .pairs) ≤ most-or-predecessors
+  pub once : Once (p .pairs)
+  pub or-few : Few (p .pairs)
 
 -- a head and two tables give a project that keeps the rules, and hold all of it
 pub record Sound (h : Head) (acts : List Activity) (ps : List Pair) : Type 0 where

@@ -19,7 +19,7 @@ pub enum Refusal {
     OutOfOrder(usize),
     // A capacity, a duration or a demand is over its limit.
     OverLimit(usize),
-    // A pair's numbers are no two activities in their order, or the pair is one too many of its kind.
+    // A pair's numbers are no two activities in their order, or it is a repeat, or a ninth OR predecessor.
     BadPair(usize),
     // One activity or pair more than a project or a lent table has room for.
     TooMany(usize),

@@ -1,11 +1,11 @@
 // The rules of a project, tested on a head and two lent tables with any contents.
 ghost use mathlib.Core.Path.{_≡_};
-ghost use mathlib.Core.List.{[]};
+ghost use mathlib.Core.List.{[], _∷_, _++_};
 ghost use lib.Dec.{T};
 ghost use lib.ListN.{length};
 ghost use Rattle.std.specs.Orderings.{Decides};
 ghost use Rattle.std.specs.shelf.Lists.{All};
-ghost use Rattle.project.specs.Project.{most-resources, project-of, Shaped, Sound, sound, head-fits, capacities-fit, activities-fit, activity-fits, within, among, proper, follows, pairs-fit, or-predecessors};
+ghost use Rattle.project.specs.Project.{Once, Few, most-resources, project-of, Shaped, Sound, sound, head-fits, capacities-fit, activities-fit, activity-fits, within, among, proper, follows, pairs-fit, or-predecessors};
 use crate::tables::Activity;
 use crate::tables::ActivityNumber;
 use crate::tables::Head;
@@ -123,7 +123,8 @@ fn or_predecessors(activity: ActivityNumber, pairs: &[Pair]) -> usize
 
 // Whether a pair can follow those before it: it is no repeat, and no OR predecessor too many.
 pub fn can_follow(pair: &Pair, before: &[Pair]) -> bool
-    ensures { λ r. ⌜ r ≡ follows (now (before .entry)) (now (pair .entry)) ⌝ }
+    ensures value { λ r. ⌜ r ≡ follows (now (before .entry)) (now (pair .entry)) ⌝ }
+    ensures decides { λ r. ⌜ (Once (now (before .entry)) → Few (now (before .entry)) → Decides r (Once (now (before .entry) ++ now (pair .entry) ∷ []) × Few (now (before .entry) ++ now (pair .entry) ∷ []))) ⌝ }
 {
     !is_among(pair, before)
         && (pair.kind != Kind::Or || or_predecessors(pair.second, before) < MOST_OR_PREDECESSORS)

@@ -36,9 +36,9 @@ impl Activity {
 pub enum Kind {
     // The kind of a zeroed record, which no project has.
     Blank,
-    // The first finishes before the second starts.
+    // The first finishes no later than the second starts.
     And,
-    // One of the firsts of all such pairs finishes before the second starts.
+    // Of the firsts of all such pairs with this second, one finishes no later than it starts.
     Or,
     // The two are never at work in the same period.
     Bi,

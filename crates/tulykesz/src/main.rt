@@ -9,7 +9,7 @@ use std::io::Read;
 use std::io::Write;
 
 // One byte more than any book has: what lies past it is not read.
-const MOST_INPUT: u64 = 65_536;
+const MOST_INPUT: u64 = book::MOST_BYTES as u64 + 1;
 
 // What is read in full, up to the most that the program takes in.
 fn read_all<R: Read + Drop>(rt: &LibcRuntime, source: R) -> io::Result<Vec<u8>> {
@@ -41,7 +41,13 @@ fn main(rt: LibcRuntime) -> Result<(), AnyError> {
         }
     };
     match planner::respond(rt.alloc(), &text) {
-        Ok(answer) => Ok(rt.stdout().write_all(&answer)?),
+        Ok(answer) => {
+            let written = rt.stdout().write_all(&answer);
+            if let Err(error) = &written {
+                eprintln!(rt, "tulykesz: cannot print the answer: {error}")?;
+            }
+            Ok(written?)
+        }
         Err(refusal) => {
             println!(rt, "{refusal}")?;
             Err("refused".into())

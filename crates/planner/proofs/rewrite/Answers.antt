@@ -1,4 +1,3 @@
-use mathlib.Core.Path.{refl}
 use Rattle.std.proofs.shelf.Results.{err-from-errBy}
 use Rattle.planner.proofs.Rewriting.{refused-text, rewritten-text}
 use Rattle.planner.proofs.rewrite.Needs as need

@@ -1,4 +1,3 @@
-use mathlib.Core.Path.{refl, sym}
 use Rattle.book.specs.Steps.{numbers-of}
 use Rattle.book.proofs.Taking.{take-capacities, take-job, take-pair, at-line, kept-at}
 use Rattle.book.proofs.reader.take_line.Needs as need

@@ -1,4 +1,4 @@
-use mathlib.Core.Path.{refl, sym, ap}
+use mathlib.Core.Path.{ap}
 use mathlib.Core.Bool.{not}
 use native.Mathlib.Omega.{arith}
 use borrow.Author.Tests.{eq-eqb, ne-eqb}

@@ -11,12 +11,12 @@ use Rattle.project.proofs.rules.pairs_fit.Needs.{then-not-is-proper·by·then-
 pub returns-then-not-is-proper : need.returns-then-not-is-proper
 returns-then-not-is-proper c = elim (c .then-not-is-proper .came) [
   | then-not-is-proper·by·then-not-is-proper w ↦ improper (c .args .activities) (c .args .pairs .now) (c .loop-q .q) (c .loop-q-test .taken) (c .loop-q .inv) (w .if-not-is-proper .ensures tt)
-  | then-not-is-proper·by·else-not-is-proper·then-not-can-follow w ↦ out-of-place (c .args .activities) (c .args .pairs .now) (c .loop-q .q) (c .loop-q-test .taken) (c .loop-q .inv) (c .loop-q .q - 0) (omega arith) (w .if-not-can-follow .ensures tt)
+  | then-not-is-proper·by·else-not-is-proper·then-not-can-follow w ↦ out-of-place (c .args .activities) (c .args .pairs .now) (c .loop-q .q) (c .loop-q-test .taken) (c .loop-q .inv) (c .loop-q .q - 0) (omega arith) (w .if-not-can-follow .ensures tt .value)
 ]
 
 pub loop-q-again : need.loop-q-again
 loop-q-again c =
-    pairs-on (c .args .activities) (c .args .pairs .now) (c .loop-q .q) (c .loop-q-test .taken) (c .loop-q .inv) (c .loop-q .q - 0) (omega arith) (c .if-not-is-proper .ensures tt) (c .if-not-can-follow .ensures tt)
+    pairs-on (c .args .activities) (c .args .pairs .now) (c .loop-q .q) (c .loop-q-test .taken) (c .loop-q .inv) (c .loop-q .q - 0) (omega arith) (c .if-not-is-proper .ensures tt) (c .if-not-can-follow .ensures tt .value)
 
 pub returns : need.returns
 returns c =

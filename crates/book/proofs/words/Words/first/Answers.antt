@@ -1,9 +1,4 @@
-use mathlib.Core.Path.{refl, sym, ap, subst, _∙_}
-use native.Mathlib.Omega.{arith}
-use lib.ListN.{take, drop}
-use mathlib.Core.List.{_∷_}
-use Rattle.book.specs.Cuts.{after}
-use Rattle.book.specs.Lines.{words}
+use mathlib.Core.Path.{refl}
 use Rattle.book.proofs.Cutting.{first-cut}
 use Rattle.book.proofs.words.Words.first.Needs as need
 

@@ -1,4 +1,4 @@
-use mathlib.Core.Path.{refl, sym, ap, subst, _∙_}
+use mathlib.Core.Path.{refl}
 use native.Mathlib.Omega.{arith}
 use Rattle.book.proofs.Cutting.{next-cut, none-cut}
 use Rattle.book.proofs.words.Words.next.Needs as need

@@ -8,7 +8,7 @@ use lib.ListN.{length, take, replicate}
 use Rattle.std.specs.declared.result.Result.{Result}
 use Rattle.std.specs.declared.result.Result.the-variants.{Ok, Err}
 use Rattle.std.proofs.shelf.Lists.{take-at}
-use Rattle.project.specs.Project.{Project, project-of, head-of, Shaped, Rules}
+use Rattle.project.specs.Project.{Project, project-of, head-of, Shaped, Rules, blank-activity, blank-pair}
 use Rattle.project.specs.Refusals.{Refused, refused, answer}
 use Rattle.project.specs.declared.refusal.Refusal.{Refusal}
 use Rattle.project.specs.declared.tables.Activity.{Activity}
@@ -16,7 +16,7 @@ use Rattle.project.specs.declared.tables.Head.{Head}
 use Rattle.project.specs.declared.tables.Pair.{Pair}
 use Rattle.book.specs.Accepted.{IsBook, Gave, Unread, Framed, WritesBook, sizes}
 use Rattle.book.specs.Puts.{PutAt, whole-text}
-use Rattle.book.specs.Reading.{reading, ReadsBack, blank-activity, blank-pair, head-answer, activities-after, pairs-after}
+use Rattle.book.specs.Reading.{reading, ReadsBack, head-answer, activities-after, pairs-after}
 use Rattle.book.specs.Written.{written}
 use Rattle.book.proofs.Acceptance.{accepts, written-book}
 use Rattle.book.proofs.Bodies.{err-ok}

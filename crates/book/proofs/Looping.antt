@@ -17,7 +17,7 @@ use Rattle.std.specs.declared.result.Result.the-variants.{Ok, Err}
 use Rattle.std.specs.shelf.Lists.{All, leading}
 use Rattle.std.proofs.shelf.Lists.{length-append, length-push, length-take-le, drop-at, drop-drop, take-at}
 use Rattle.std.proofs.shelf.Tests.{ne-eqb, true≢false}
-use Rattle.project.specs.Project.{Project, project-of, head-of, filled}
+use Rattle.project.specs.Project.{Project, project-of, head-of, filled, blank-activity, blank-pair}
 use Rattle.project.specs.Refusals.{Refused, refused, answer}
 use Rattle.project.specs.declared.refusal.Refusal.{Refusal}
 use Rattle.project.specs.declared.tables.Activity.{Activity}
@@ -30,7 +30,7 @@ use Rattle.book.specs.Accepted.{Sizes, sizes}
 use Rattle.book.specs.Cuts.{other}
 use Rattle.book.specs.Lines.{lf, most-bytes, line, formed, with-lf}
 use Rattle.book.specs.Written.{trailer-line}
-use Rattle.book.specs.Reading.{Sofar, Trailed, resources-of, activity-of, pair-of, added, extended, judged, on, read-lines, trailer, body-lines, closed, read-after, reading, head-answer, activities-after, pairs-after, blank-activity, blank-pair}
+use Rattle.book.specs.Reading.{Sofar, Trailed, resources-of, activity-of, pair-of, added, extended, judged, on, read-lines, trailer, body-lines, closed, read-after, reading, head-answer, activities-after, pairs-after}
 use Rattle.book.specs.Steps.{sofar-of, Kept, KeptSofar, Took, closing, Reads}
 use Rattle.book.proofs.Bodies.{step-from-judged}
 use Rattle.book.proofs.Frames.{Free, trailer-framed}

@@ -11,13 +11,12 @@ use Rattle.std.specs.declared.option.Option.the-variants.{Some, None}
 use Rattle.std.specs.declared.result.Result.{Result}
 use Rattle.std.specs.declared.result.Result.the-variants.{Ok, Err}
 use Rattle.std.specs.shelf.Lists.{ending}
-use Rattle.project.specs.Project.{Project, most-activities, most-resources, most-capacity, most-pairs, activity-fits, proper, follows, head-of, filled}
+use Rattle.project.specs.Project.{Project, most-activities, most-resources, most-capacity, most-pairs, activity-fits, proper, follows, head-of, filled, blank-activity, blank-pair}
 use Rattle.project.specs.Refusals.{Refused, refused}
 use Rattle.project.specs.declared.refusal.Refusal.{Refusal}
 use Rattle.project.specs.declared.tables.Activity.{Activity}
 use Rattle.project.specs.declared.tables.Head.{Head}
 use Rattle.project.specs.declared.tables.Kind.{Kind}
-use Rattle.project.specs.declared.tables.Kind.the-variants.{Blank}
 use Rattle.project.specs.declared.tables.Pair.{Pair}
 use Rattle.book.specs.Accepted.{Sizes}
 use Rattle.book.specs.declared.lines.LineKind.{LineKind}
@@ -199,12 +198,6 @@ reading z bs = read-after z bs (trailer bs)
 abbrev pub head-answer : Result Project Refused → Result Head Refused
 head-answer (Ok p) = Ok (head-of p)
 head-answer (Err e) = Err e
-
-abbrev pub blank-activity : Activity
-blank-activity = record { duration = 0; demands = replicate most-resources 0 }
-
-abbrev pub blank-pair : Pair
-blank-pair = record { kind = Blank; first = 0; second = 0 }
 
 abbrev pub activities-after : Result Project Refused → List Activity → List Activity
 activities-after (Ok p) xs = filled (p .activities) xs

@@ -7,13 +7,13 @@ ghost use Prim.Native.Nat.{ℕ, _-_, _≤_};
 ghost use lib.ListN.{length, take, replicate};
 ghost use Rattle.std.specs.declared.option.Option.the-variants.{Some, None};
 ghost use Rattle.std.specs.declared.result.Result.the-variants.{Ok, Err};
-ghost use Rattle.project.specs.Project.{Project, within, activity-fits, proper, isBlank, most-activities, most-resources};
+ghost use Rattle.project.specs.Project.{Project, within, activity-fits, proper, isBlank, most-activities, most-resources, blank-activity, blank-pair};
 ghost use Rattle.project.specs.Refusals.{Refused, refused, answer};
 ghost use Rattle.std.specs.Holes.{between};
 ghost use Rattle.std.specs.shelf.Lists.{ending};
 ghost use Rattle.book.specs.Accepted.{IsBook, Gave, Unread, Framed, sizes};
 ghost use Rattle.book.specs.Lines.{formed, most-bytes};
-ghost use Rattle.book.specs.Reading.{judged, resources-of, not-lf, trailed, trailer, reading, head-answer, activities-after, pairs-after, blank-activity, blank-pair, pair-of};
+ghost use Rattle.book.specs.Reading.{judged, resources-of, not-lf, trailed, trailer, reading, head-answer, activities-after, pairs-after, pair-of};
 ghost use Rattle.book.specs.Written.{written};
 ghost use Rattle.book.specs.Steps.{activity-in, activity-judged, pair-judged, opening, placed, Ready, activity-more, pair-more, Put, Took, KeptSofar, sofar-of, content-in, trailer-told, closing, resources-known, Reads};
 use crate::lines::Line;
@@ -319,8 +319,8 @@ fn read_project(
     read_body(book, &trailer, activities, pairs)
 }
 
-// Fills a table with a blank record.
-fn blank<T: Copy>(table: &mut [T], zeroed: T)
+// Puts the zeroed record into every place of a table.
+fn clear<T: Copy>(table: &mut [T], zeroed: T)
     ensures { λ _. ⌜ now (table .exit) ≡ replicate (length (now (table .entry))) zeroed ⌝ }
 {
     for place in table.iter_mut() {
@@ -341,8 +341,8 @@ pub fn read(book: &[u8], activities: &mut [Activity], pairs: &mut [Pair]) -> Res
 {
     let answer = read_project(book, activities, pairs);
     if answer.is_err() {
-        blank(activities, Activity::BLANK);
-        blank(pairs, Pair::BLANK);
+        clear(activities, Activity::blank());
+        clear(pairs, Pair::blank());
     }
     answer
 }

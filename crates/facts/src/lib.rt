@@ -44,7 +44,11 @@ mod tests {
             first: 1,
             second: 2,
         },
-        Pair::BLANK,
+        Pair {
+            kind: Kind::Blank,
+            first: 0,
+            second: 0,
+        },
     ];
 
     // The text of that project.

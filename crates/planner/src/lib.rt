@@ -33,8 +33,8 @@ pub fn respond(heap: Global, text: &[u8]) -> Result<Vec<u8>, Refusal>
     ensures value { λ r. ⌜ Responds (now (text .entry)) r ⌝ }
     ensures means { λ r. ⌜ Means (now (text .entry)) r ⌝ }
 {
-    let mut activities = vec![in heap; Activity::BLANK; MOST_ACTIVITIES]?;
-    let mut pairs = vec![in heap; Pair::BLANK; MOST_PAIRS]?;
+    let mut activities = vec![in heap; Activity::blank(); MOST_ACTIVITIES]?;
+    let mut pairs = vec![in heap; Pair::blank(); MOST_PAIRS]?;
     let mut out = vec![in heap; 0u8; text.len()]?;
     let length = rewrite(text, &mut activities, &mut pairs, &mut out)?;
     out.truncate(length);

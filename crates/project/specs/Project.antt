@@ -4,7 +4,7 @@ use mathlib.Core.Bool.{Bool, true, false, not, _&&_, _||_, cond}
 use mathlib.Core.List.{List, [], _∷_, _++_}
 use Prim.Native.Nat.{ℕ, _-_, _≤_, _<_}
 use lib.Dec.{leb, ltb, eqb}
-use lib.ListN.{length, getD, take, drop}
+use lib.ListN.{length, getD, take, drop, replicate}
 use Rattle.std.specs.shelf.Lists.{All, countBy}
 use Rattle.project.specs.declared.tables.Activity.{Activity}
 use Rattle.project.specs.declared.tables.Head.{Head}
@@ -49,6 +49,13 @@ head-of p = record { activities = length (p .activities); resources = p .resourc
 -- the table xs with the records of `front` in its first places
 abbrev pub filled : {A : Type 0} → List A → List A → List A
 filled front xs = front ++ drop (length front) xs
+
+-- the zeroed records
+abbrev pub blank-activity : Activity
+blank-activity = record { duration = 0; demands = replicate most-resources 0 }
+
+abbrev pub blank-pair : Pair
+blank-pair = record { kind = Blank; first = 0; second = 0 }
 
 abbrev pub capacity : Project → ℕ → ℕ
 capacity p k = getD (p .capacities) k 0

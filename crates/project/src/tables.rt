@@ -1,4 +1,6 @@
 // The records of a project, which stand in tables that the caller lends, and the head that goes with them.
+ghost use mathlib.Core.Path.{_≡_};
+ghost use Rattle.project.specs.Project.{blank-activity, blank-pair};
 
 // The limits of a project.
 pub const MOST_ACTIVITIES: usize = 62;
@@ -25,10 +27,14 @@ pub struct Activity {
 
 impl Activity {
     // The zeroed record.
-    pub const BLANK: Activity = Activity {
-        duration: 0,
-        demands: [0; MOST_RESOURCES],
-    };
+    pub const fn blank() -> Activity
+        ensures { λ r. ⌜ r ≡ blank-activity ⌝ }
+    {
+        Activity {
+            duration: 0,
+            demands: [0; MOST_RESOURCES],
+        }
+    }
 }
 
 // What a pair asks of its two activities.
@@ -53,11 +59,15 @@ pub struct Pair {
 
 impl Pair {
     // The zeroed record.
-    pub const BLANK: Pair = Pair {
-        kind: Kind::Blank,
-        first: 0,
-        second: 0,
-    };
+    pub const fn blank() -> Pair
+        ensures { λ r. ⌜ r ≡ blank-pair ⌝ }
+    {
+        Pair {
+            kind: Kind::Blank,
+            first: 0,
+            second: 0,
+        }
+    }
 }
 
 // How many activities, resources and pairs a project has, and the capacities of its resources. The capacities past the

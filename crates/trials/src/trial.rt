@@ -88,8 +88,8 @@ impl Case {
             Ok(head) => accepted(heap, head, &activities, &pairs),
             Err(refusal) => Ok(Outcome::Refused {
                 refusal,
-                blank: rest_is(&activities, 0, &Activity::BLANK)
-                    && rest_is(&pairs, 0, &Pair::BLANK),
+                blank: rest_is(&activities, 0, &Activity::blank())
+                    && rest_is(&pairs, 0, &Pair::blank()),
             }),
         }
     }

@@ -1,4 +1,5 @@
-use mathlib.Core.Path.{_∙_}
+use mathlib.Core.Path.{ap, _∙_}
+use lib.ListN.{length, replicate}
 use Rattle.book.specs.Accepted.{sizes}
 use Rattle.book.specs.Reading.{reading}
 use Rattle.book.proofs.Answering.{accepts-call, refuses-call, blank-call, written-call}
@@ -11,8 +12,8 @@ returns-then-is-err c =
     let acts = c .args .activities .now in
     let ps = c .args .pairs .now in
     let h = refusal (reading (sizes acts ps) bs) acts ps (c .read-project-answer .result) (c .read-project-answer .last .activities) (c .read-project-answer .last .pairs) (c .read-project-answer .ensures) (c .if-is-err .ensures tt .value) (c .read-project-answer .kept .activities) (c .read-project-answer .kept .pairs) in
-    let a = c .blank .ensures ∙ h .1 in
-    let b = c .blank-then-is-err .ensures ∙ h .2 in
+    let a = c .clear .ensures ∙ ap (replicate (length (c .read-project-answer .last .activities))) (c .blank .ensures) ∙ h .1 in
+    let b = c .clear-then-is-err .ensures ∙ ap (replicate (length (c .read-project-answer .last .pairs))) (c .blank-then-is-err .ensures) ∙ h .2 in
     record {
       value = h .0;
       activities = a;

@@ -3,7 +3,7 @@ use mathlib.Core.List.{[], _∷_, _++_}
 use native.Mathlib.Omega.{arith}
 use lib.ListN.{length, replicate}
 use Rattle.std.proofs.shelf.Lists.{take-all, take-more-set, replicate-more}
-use Rattle.book.proofs.reader.blank.Needs as need
+use Rattle.book.proofs.reader.clear.Needs as need
 
 pub loop-place-again : need.loop-place-again
 loop-place-again g c =

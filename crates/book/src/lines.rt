@@ -22,7 +22,7 @@ pub(crate) enum LineKind {
     Trailer,
 }
 
-// The numbers of a line, and zeros after them.
+// The numbers of a line: the first `count` of the values. The line reader leaves zeros after them.
 #[derive(Clone, Copy)]
 pub(crate) struct Numbers {
     pub count: usize,

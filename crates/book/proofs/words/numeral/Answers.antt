@@ -27,4 +27,4 @@ returns c =
     let ds = c .args .word .now in
     let whole : take (c .loop-digit .digit-index) ds ≡ ds = take-all _ ds (c .loop-digit-test .left) in
     let ne = false-eqb _ 0 (c .if-is-empty .ensures tt) in
-    some-numeral ds (c .loop-digit .value) (omega arith) (c .if-word-gt-MOST-DIGITS .left) (λ zero. ⊎-elim (λ h. omega arith) (λ h. absurd (h zero)) (c .if-word-gt1 .either)) (subst (λ l. allDigits l ≡ true) whole (c .loop-digit .inv .0)) (c .loop-digit .inv .1 ∙ ap (value 10) whole)
+    some-numeral ds (c .loop-digit .value) (omega arith) (omega arith) (λ zero. ⊎-elim (λ h. omega arith) (λ h. absurd (h zero)) (c .if-word-gt1 .either)) (subst (λ l. allDigits l ≡ true) whole (c .loop-digit .inv .0)) (c .loop-digit .inv .1 ∙ ap (value 10) whole)

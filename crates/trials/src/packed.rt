@@ -77,7 +77,7 @@ impl Unpacker {
 }
 
 // The bytes that a packed text stands for.
-pub fn unpack(heap: Global, text: &str) -> Result<Vec<u8>, AnyError> {
+pub(crate) fn unpack(heap: Global, text: &str) -> Result<Vec<u8>, AnyError> {
     let mut unpacker = Unpacker {
         bytes: Vec::new(heap),
         next: Next::Item,
@@ -93,7 +93,7 @@ pub fn unpack(heap: Global, text: &str) -> Result<Vec<u8>, AnyError> {
 }
 
 // The text of a book that was written, on one line.
-pub fn pack(heap: Global, bytes: &[u8]) -> Result<String, AllocError> {
+pub(crate) fn pack(heap: Global, bytes: &[u8]) -> Result<String, AllocError> {
     let mut text = String::new(heap);
     for byte in bytes {
         text.push(

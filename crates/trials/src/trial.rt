@@ -70,7 +70,7 @@ fn rest_is<T: PartialEq<T>>(records: &[T], from: usize, expected: &T) -> bool {
 }
 
 impl Case {
-    pub fn parse(heap: Global, line: &str) -> Result<Case, AnyError> {
+    pub(crate) fn parse(heap: Global, line: &str) -> Result<Case, AnyError> {
         let (activities, rest) = line.split_once(' ')
             .ok_or("a case begins with two lengths")?;
         let (pairs, text) = rest.split_once(' ').ok_or("a case has a text")?;
@@ -81,7 +81,7 @@ impl Case {
         })
     }
 
-    pub fn run(&self, heap: Global) -> Result<Outcome, AllocError> {
+    pub(crate) fn run(&self, heap: Global) -> Result<Outcome, AllocError> {
         let mut activities = vec![in heap; OLD_ACTIVITY; self.activities]?;
         let mut pairs = vec![in heap; OLD_PAIR; self.pairs]?;
         match book::read(&self.book, &mut activities, &mut pairs) {

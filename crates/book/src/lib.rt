@@ -1,4 +1,6 @@
 // Books: the text form of a project, read into lent tables and written from them.
+#![tactic(auto)]
+
 mod lines;
 mod reader;
 mod words;

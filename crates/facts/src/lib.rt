@@ -1,4 +1,6 @@
 // The worked examples of the documents, as one proved fact of the definitions that the contracts cite.
+#![tactic(auto)]
+
 ghost use Rattle.facts.specs.Worked.{Worked};
 
 pub mod runs;

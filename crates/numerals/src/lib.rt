@@ -1,4 +1,6 @@
 // Numbers in base ten, as bytes, and bytes written at a place of lent ones.
+#![tactic(auto)]
+
 ghost use Rattle.std.specs.Prelude.{◌≡◌, ◌+◌, ◌≤◌, [], ◌∷◌, length, decimal};
 ghost use Rattle.numerals.specs.Puts.{PutAt, PutIfRoom};
 

@@ -1,4 +1,6 @@
 // What the program does with a book, as a function from bytes to bytes.
+#![tactic(auto)]
+
 ghost use Rattle.std.specs.Prelude.{◌≡◌, ◌≤◌, length};
 ghost use Rattle.project.specs.Project.{most_activities, most_pairs};
 ghost use Rattle.planner.specs.Response.{Responds, Means, Rewrites, response};

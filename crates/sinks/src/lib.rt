@@ -1,4 +1,6 @@
 // Sinks take clauses in batches: a batch is kept whole or struck whole.
+#![tactic(auto)]
+
 pub mod batch;
 pub mod clause;
 pub mod counter;

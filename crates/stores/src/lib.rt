@@ -1,4 +1,6 @@
 // Sinks that spell their clauses in memory of their own.
+#![tactic(auto)]
+
 pub mod cells;
 mod line;
 mod memory;

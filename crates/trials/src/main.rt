@@ -1,5 +1,7 @@
 // Reads cases from standard input, line by line, and prints a line of answer for each. A case is `A P TEXT`: the lengths
 // of the two lent tables and the text of a book. A line that begins with `#` is a heading, and is printed as it is.
+#![tactic(auto)]
+
 mod packed;
 mod trial;
 

@@ -1,5 +1,7 @@
 // Reads a book from standard input, or from the file that its one argument names, and prints what the planner answers.
 // A refused book prints one line that says why, and ends with status 1.
+#![tactic(auto)]
+
 use anyhow::anyhow;
 use std::io::{Read, Write};
 use std::{env, fs, io};

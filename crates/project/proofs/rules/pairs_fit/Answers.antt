@@ -3,17 +3,17 @@ use Rattle.std.proofs.lemmas.List.{at_drop_all}
 use Rattle.project.specs.Project.{pairs_fit}
 use Rattle.project.proofs.Steps.{improper, out_of_place, pairs_on}
 use Rattle.project.proofs.rules.pairs_fit.Goals as goal
-use Rattle.project.proofs.rules.pairs_fit.Goals.{then-not-is-proper-via-then-not-is-proper, then-not-is-proper-via-else-not-is-proper+then-not-can-follow}
+use Rattle.project.proofs.rules.pairs_fit.Goals.{then-not-is_proper-via-then-not-is_proper, then-not-is_proper-via-else-not-is_proper+then-not-can_follow}
 
-pub returns-then-not-is-proper : goal.returns-then-not-is-proper
-returns-then-not-is-proper c = elim c.then-not-is-proper.branch [
-  | then-not-is-proper-via-then-not-is-proper w ↦ improper c.args.activities c.args.pairs.now c.loop-q.q c.loop-q-test.true c.loop-q.invariant w.if-not-is-proper.ensures
-  | then-not-is-proper-via-else-not-is-proper+then-not-can-follow w ↦ out_of_place c.args.activities c.args.pairs.now c.loop-q.q c.loop-q-test.true c.loop-q.invariant (c.loop-q.q - 0) (omega arith) w.if-not-can-follow.ensures.value
+pub returns-then-not-is_proper : goal.returns-then-not-is_proper
+returns-then-not-is_proper c = elim c.then-not-is_proper.branch [
+  | then-not-is_proper-via-then-not-is_proper w ↦ improper c.args.activities c.args.pairs.now c.loop-q.q c.loop-q-test.true c.loop-q.invariant w.if-not-is_proper.ensures
+  | then-not-is_proper-via-else-not-is_proper+then-not-can_follow w ↦ out_of_place c.args.activities c.args.pairs.now c.loop-q.q c.loop-q-test.true c.loop-q.invariant (c.loop-q.q - 0) (omega arith) w.if-not-can_follow.ensures.value
 ]
 
 pub loop-q-preserved : goal.loop-q-preserved
 loop-q-preserved c =
-    pairs_on c.args.activities c.args.pairs.now c.loop-q.q c.loop-q-test.true c.loop-q.invariant (c.loop-q.q - 0) (omega arith) c.if-not-is-proper.ensures c.if-not-can-follow.ensures.value
+    pairs_on c.args.activities c.args.pairs.now c.loop-q.q c.loop-q-test.true c.loop-q.invariant (c.loop-q.q - 0) (omega arith) c.if-not-is_proper.ensures c.if-not-can_follow.ensures.value
 
 pub returns : goal.returns
 returns c =

@@ -9,6 +9,6 @@ returns-then-n-lt10 t c = record { value = length_digit c.args.n c.if-n-lt10.tru
 pub returns-else-n-lt10 : goal.returns-else-n-lt10
 returns-else-n-lt10 t c =
     let n = c.args.n in
-    let e = length_digits n _ c.if-n-lt10.false (omega arith) c.number-length.ensures.value in
+    let e = length_digits n _ c.if-n-lt10.false (omega arith) c.number_length.ensures.value in
     let le = length-decimal-le 10 n (omega arith) (omega arith) (omega arith) in
     record { value = e; bound = omega arith }

@@ -5,14 +5,14 @@ use Rattle.book.proofs.Answering.{accepts_call, refuses_call, blank_call, writte
 use Rattle.book.proofs.Looping.{refusal, acceptance}
 use Rattle.book.proofs.reader.read.Goals as goal
 
-pub returns-then-is-err : goal.returns-then-is-err
-returns-then-is-err c =
+pub returns-then-is_err : goal.returns-then-is_err
+returns-then-is_err c =
     let bs = c.args.book.now in
     let acts = c.args.activities.now in
     let ps = c.args.pairs.now in
-    let h = refusal (reading (sizes acts ps) bs) acts ps c.read-project-answer.result c.read-project-answer.new.activities c.read-project-answer.new.pairs c.read-project-answer.ensures c.if-is-err.ensures.value c.read-project-answer.auto.activities c.read-project-answer.auto.pairs in
-    let a = c.clear.ensures ∙ ap (replicate (length c.read-project-answer.new.activities)) c.blank.ensures ∙ h.1 in
-    let b = c.clear-then-is-err.ensures ∙ ap (replicate (length c.read-project-answer.new.pairs)) c.blank-then-is-err.ensures ∙ h.2 in
+    let h = refusal (reading (sizes acts ps) bs) acts ps c.read_project-answer.result c.read_project-answer.new.activities c.read_project-answer.new.pairs c.read_project-answer.ensures c.if-is_err.ensures.value c.read_project-answer.auto.activities c.read_project-answer.auto.pairs in
+    let a = c.clear.ensures ∙ ap (replicate (length c.read_project-answer.new.activities)) c.blank.ensures ∙ h.1 in
+    let b = c.clear-then-is_err.ensures ∙ ap (replicate (length c.read_project-answer.new.pairs)) c.blank-then-is_err.ensures ∙ h.2 in
     record {
       value = h.0;
       activities = a;
@@ -23,12 +23,12 @@ returns-then-is-err c =
       written = written_call bs acts ps _ _ _ h.0 a b;
     }
 
-pub returns-else-is-err : goal.returns-else-is-err
-returns-else-is-err c =
+pub returns-else-is_err : goal.returns-else-is_err
+returns-else-is_err c =
     let bs = c.args.book.now in
     let acts = c.args.activities.now in
     let ps = c.args.pairs.now in
-    let h = acceptance (reading (sizes acts ps) bs) acts ps c.read-project-answer.result c.read-project-answer.new.activities c.read-project-answer.new.pairs c.read-project-answer.ensures c.if-is-err.ensures.value in
+    let h = acceptance (reading (sizes acts ps) bs) acts ps c.read_project-answer.result c.read_project-answer.new.activities c.read_project-answer.new.pairs c.read_project-answer.ensures c.if-is_err.ensures.value in
     record {
       value = h.0;
       activities = h.1;

@@ -9,6 +9,6 @@ returns c =
     let n = c.args.line.now.numbers.count in
     let vs = c.args.line.now.numbers.values in
     let z : n - 0 ≡ n = omega arith in
-    let e = c.numbers-length.ensures.value ∙ ap (λ k. length (flat_map spaced (take k vs))) z in
+    let e = c.numbers_length.ensures.value ∙ ap (λ k. length (flat_map spaced (take k vs))) z in
     let m = length_push (flat_map spaced (take n vs)) lf in
     record { value = omega arith; bound = omega arith }

@@ -4,7 +4,7 @@ use Rattle.book.proofs.writer.text_length.Goals as goal
 
 pub loop-i-preserved : goal.loop-i-preserved
 loop-i-preserved c = (
-  length_more c.args.head.now c.args.activities.now c.args.pairs.now c.requires c.loop-i.i (omega arith) _ c.text-line.ensures.says _ _ c.loop-i.invariant.0 c.line-length-length.ensures.value,
+  length_more c.args.head.now c.args.activities.now c.args.pairs.now c.requires c.loop-i.i (omega arith) _ c.text_line.ensures.says _ _ c.loop-i.invariant.0 c.line_length-length.ensures.value,
   omega arith,
 )
 

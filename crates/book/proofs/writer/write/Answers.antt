@@ -5,10 +5,10 @@ use Rattle.book.proofs.Answering.{book_written, no_book, reads_back, broken_rule
 use Rattle.book.proofs.TextLines.{no_rules, not_written, all_written}
 use Rattle.book.proofs.writer.write.Goals as goal
 
-pub returns-then-not-keeps-rules : goal.returns-then-not-keeps-rules
-returns-then-not-keeps-rules c =
+pub returns-then-not-keeps_rules : goal.returns-then-not-keeps_rules
+returns-then-not-keeps_rules c =
     let p = project_of c.args.head.now c.args.activities.now c.args.pairs.now in
-    let kept = c.if-not-keeps-rules.ensures in
+    let kept = c.if-not-keeps_rules.ensures in
     let r = no_rules c.args.head.now c.args.activities.now c.args.pairs.now c.args.out.now kept.value in
     let book = no_book p _ c.args.out.now in
     record {
@@ -19,10 +19,10 @@ returns-then-not-keeps-rules c =
       read = reads_back p _ _ book;
     }
 
-pub returns-then-text-length-out : goal.returns-then-text-length-out
-returns-then-text-length-out c =
+pub returns-then-text_length-out : goal.returns-then-text_length-out
+returns-then-text_length-out c =
     let p = project_of c.args.head.now c.args.activities.now c.args.pairs.now in
-    let kept = c.if-not-keeps-rules.ensures in
+    let kept = c.if-not-keeps_rules.ensures in
     let r = not_written c.args.head.now c.args.activities.now c.args.pairs.now c.args.out.now kept.value (omega arith) in
     let book = no_book p _ c.args.out.now in
     record {
@@ -36,9 +36,9 @@ returns-then-text-length-out c =
 pub returns : goal.returns
 returns c =
     let p = project_of c.args.head.now c.args.activities.now c.args.pairs.now in
-    let kept = c.if-not-keeps-rules.ensures in
-    let r = all_written c.args.head.now c.args.activities.now c.args.pairs.now c.args.out.now kept.value (omega arith) c.write-text.ensures in
-    let book = book_written p (kept.shaped tt) (kept.decides.0 refl).rules c.write-text.ensures in
+    let kept = c.if-not-keeps_rules.ensures in
+    let r = all_written c.args.head.now c.args.activities.now c.args.pairs.now c.args.out.now kept.value (omega arith) c.write_text.ensures in
+    let book = book_written p (kept.shaped tt) (kept.decides.0 refl).rules c.write_text.ensures in
     record {
       value = r.0;
       after = r.1;

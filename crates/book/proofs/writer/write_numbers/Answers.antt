@@ -8,18 +8,18 @@ use Rattle.book.proofs.writer.write_numbers.Goals as goal
 pub loop-number-init : goal.loop-number-init
 loop-number-init c = put_none refl refl
 
-pub write-byte-digits-requires : goal.write-byte-digits-requires
-write-byte-digits-requires c =
+pub write_byte-digits-requires : goal.write_byte-digits-requires
+write_byte-digits-requires c =
     omega (arith, piece_room spaced c.args.numbers.now c.loop-number.number-index 0 c.loop-number-test.true c.requires c.loop-number.invariant)
 
-pub write-number-end-requires : goal.write-number-end-requires
-write-number-end-requires c =
-    omega (arith, piece_room spaced c.args.numbers.now c.loop-number.number-index 0 c.loop-number-test.true c.requires c.loop-number.invariant, c.write-byte-digits.ensures.ends)
+pub write_number-end-requires : goal.write_number-end-requires
+write_number-end-requires c =
+    omega (arith, piece_room spaced c.args.numbers.now c.loop-number.number-index 0 c.loop-number-test.true c.requires c.loop-number.invariant, c.write_byte-digits.ensures.ends)
 
 pub loop-number-preserved : goal.loop-number-preserved
 loop-number-preserved c =
     let room = piece_room spaced c.args.numbers.now c.loop-number.number-index 0 c.loop-number-test.true c.requires c.loop-number.invariant in
-    piece_more spaced c.args.numbers.now c.loop-number.number-index 0 c.loop-number-test.true c.requires c.loop-number.invariant (put_more (omega (arith, c.write-byte-digits.ensures.ends)) c.write-byte-digits.ensures c.write-number-end.ensures)
+    piece_more spaced c.args.numbers.now c.loop-number.number-index 0 c.loop-number-test.true c.requires c.loop-number.invariant (put_more (omega (arith, c.write_byte-digits.ensures.ends)) c.write_byte-digits.ensures c.write_number-end.ensures)
 
 pub returns : goal.returns
 returns c =

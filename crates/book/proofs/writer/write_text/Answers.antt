@@ -6,14 +6,14 @@ use Rattle.book.proofs.writer.write_text.Goals as goal
 pub loop-i-init : goal.loop-i-init
 loop-i-init c = put_none refl refl
 
-pub write-line-at-requires : goal.write-line-at-requires
-write-line-at-requires c =
-    let r = line_room c.args.head.now c.args.activities.now c.args.pairs.now c.requires.tables c.loop-i.i (omega arith) _ c.text-line.ensures.says c.requires.room c.loop-i.invariant in
-    record { few = c.text-line.ensures.few; room = omega arith }
+pub write_line-at-requires : goal.write_line-at-requires
+write_line-at-requires c =
+    let r = line_room c.args.head.now c.args.activities.now c.args.pairs.now c.requires.tables c.loop-i.i (omega arith) _ c.text_line.ensures.says c.requires.room c.loop-i.invariant in
+    record { few = c.text_line.ensures.few; room = omega arith }
 
 pub loop-i-preserved : goal.loop-i-preserved
 loop-i-preserved c =
-    line_more c.args.head.now c.args.activities.now c.args.pairs.now c.requires.tables c.loop-i.i (omega arith) _ c.text-line.ensures.says c.requires.room c.loop-i.invariant c.write-line-at.ensures
+    line_more c.args.head.now c.args.activities.now c.args.pairs.now c.requires.tables c.loop-i.i (omega arith) _ c.text_line.ensures.says c.requires.room c.loop-i.invariant c.write_line-at.ensures
 
 pub returns : goal.returns
 returns c =

@@ -5,10 +5,10 @@ use Rattle.sinks.proofs.Batches.{adds_none, opens, keeps, strikes}
 use Rattle.sinks.proofs.Wholes.{turn, whole, not_opened, struck, kept}
 use Rattle.sinks.proofs.batch.add_all.Goals as goal
 
-pub returns-in-err-token : goal.returns-in-err-token
-returns-in-err-token g c =
-    let p = err_from_is_err_and c.from-residual.result c.from-residual.ensures.1 in
-    let o = c.in-err-token.ensures in
+pub returns-in_err-token : goal.returns-in_err-token
+returns-in_err-token g c =
+    let p = err_from_is_err_and c.from_residual.result c.from_residual.ensures.1 in
+    let o = c.in_err-token.ensures in
     whole g.S.Sink _ _ _ _ (not_opened g.S.Sink (held c.args.clauses.now) _ c.args.sink.now c.open.new.self o.meaning o.order _ (p.1 ∙ ap Err p.2))
 
 pub loop-clause-init : goal.loop-clause-init
@@ -16,12 +16,12 @@ loop-clause-init g c = adds_none g.S.Sink c.open.new.self
 
 pub loop-clause-preserved : goal.loop-clause-preserved
 loop-clause-preserved g c =
-    let a = c.in-default.ensures in
+    let a = c.in_default.ensures in
     turn g.S.Sink c.args.clauses.now c.loop-clause.clause-index _ c.open.new.self c.loop-clause.sink c.add.new.self c.loop-clause-test.true c.loop-clause.invariant a.meaning a.order
 
 pub returns-in-Err : goal.returns-in-Err
 returns-in-Err g c =
-    let o = c.in-ok-token.ensures in
+    let o = c.in_ok-token.ensures in
     let a = c.in-Err.ensures in
     whole g.S.Sink _ _ _ _
     (struck g.S.Sink c.args.clauses.now c.loop-clause.clause-index _ c.in-Err.refusal c.args.sink.now c.open.new.self c.loop-clause.sink c.add.new.self _
@@ -29,7 +29,7 @@ returns-in-Err g c =
 
 pub returns : goal.returns
 returns g c =
-    let o = c.in-ok-token.ensures in
+    let o = c.in_ok-token.ensures in
     whole g.S.Sink _ _ _ _
     (kept g.S.Sink c.args.clauses.now c.loop-clause.clause-index _ c.args.sink.now c.open.new.self c.loop-clause.sink _
     c.loop-clause-test.false (opens g.S.Sink _ _ o.meaning o.order) c.loop-clause.invariant (λ is_open. keeps g.S.Sink _ _ _ is_open (search rules) (search rules)))

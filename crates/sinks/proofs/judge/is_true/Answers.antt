@@ -11,11 +11,11 @@ returns-then-number-gt0 c =
     let a = given c.args.values.now in
     let f : SFits w32 c.args.number = search rules in
     let back = to_z-of_z w32 c.args.number f in
-    c.value-value.ensures ∙ ap a (c.unsigned-abs.ensures.value ∙ ap variable back) ∙ positive a c.args.number (ap (lt_z (pos 0)) (sym back) ∙ c.if-number-gt0.true)
+    c.value-value.ensures ∙ ap a (c.unsigned_abs.ensures.value ∙ ap variable back) ∙ positive a c.args.number (ap (lt_z (pos 0)) (sym back) ∙ c.if-number-gt0.true)
 
 pub returns-else-number-gt0 : goal.returns-else-number-gt0
 returns-else-number-gt0 c =
     let a = given c.args.values.now in
     let f : SFits w32 c.args.number = search rules in
     let back = to_z-of_z w32 c.args.number f in
-    ap not (c.value-value.ensures ∙ ap a (c.unsigned-abs.ensures.value ∙ ap variable back)) ∙ negative a c.args.number c.requires (ap (lt_z (pos 0)) (sym back) ∙ c.if-number-gt0.false)
+    ap not (c.value-value.ensures ∙ ap a (c.unsigned_abs.ensures.value ∙ ap variable back)) ∙ negative a c.args.number c.requires (ap (lt_z (pos 0)) (sym back) ∙ c.if-number-gt0.false)

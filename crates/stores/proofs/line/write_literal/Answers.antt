@@ -10,16 +10,16 @@ pub returns : goal.returns
 returns c =
     let l = c.args.literal in
     let same = to_z-of_z w32 l c.ranges.literal in
-    let n = c.unsigned-abs.ensures.value ∙ ap nat_abs same in
-    let blank = c.write-byte-sign.ensures.room (omega arith) in
+    let n = c.unsigned_abs.ensures.value ∙ ap nat_abs same in
+    let blank = c.write_byte-sign.ensures.room (omega arith) in
     elim c.if-literal-lt0.branch [
       | then-literal-lt0 w ↦
           let is = negative l _ (ap (λ z. lt_z z (pos 0)) (sym same) ∙ w.if-literal-lt0.true) n in
           let long = ap length is in
-          let sign = put_then (omega arith) blank w.write-byte-digits.ensures in
-          put_same refl refl is (put_then (omega arith) (put_same w.bytes-is w.digits-is refl sign) c.write-number.ensures)
+          let sign = put_then (omega arith) blank w.write_byte-digits.ensures in
+          put_same refl refl is (put_then (omega arith) (put_same w.bytes-is w.digits-is refl sign) c.write_number.ensures)
       | else-literal-lt0 w ↦
           let is = positive l _ (ap (λ z. lt_z z (pos 0)) (sym same) ∙ w.if-literal-lt0.false) n in
           let long = ap length is in
-          put_same refl refl is (put_then (omega arith) (put_same w.bytes-is w.digits-is refl blank) c.write-number.ensures)
+          put_same refl refl is (put_then (omega arith) (put_same w.bytes-is w.digits-is refl blank) c.write_number.ensures)
     ]

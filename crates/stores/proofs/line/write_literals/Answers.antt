@@ -9,8 +9,8 @@ use Rattle.stores.proofs.line.write_literals.Goals as goal
 pub loop-literal-init : goal.loop-literal-init
 loop-literal-init c = put_none refl refl
 
-pub write-literal-end-requires : goal.write-literal-end-requires
-write-literal-end-requires c =
+pub write_literal-end-requires : goal.write_literal-end-requires
+write_literal-end-requires c =
     let xs = c.args.literals.now in
     let i = c.loop-literal.literal-index in
     let f : SFits w32 (get_or xs i (pos 0)) = search rules in
@@ -21,7 +21,7 @@ loop-literal-preserved c =
     let xs = c.args.literals.now in
     let i = c.loop-literal.literal-index in
     let f : SFits w32 (get_or xs i (pos 0)) = search rules in
-    piece_more spaced xs i (pos 0) c.loop-literal-test.true c.requires c.loop-literal.invariant (put_same refl refl (ap spaced (to_z-of_z w32 (get_or xs i (pos 0)) f)) c.write-literal-end.ensures)
+    piece_more spaced xs i (pos 0) c.loop-literal-test.true c.requires c.loop-literal.invariant (put_same refl refl (ap spaced (to_z-of_z w32 (get_or xs i (pos 0)) f)) c.write_literal-end.ensures)
 
 pub returns : goal.returns
 returns c =

@@ -4,8 +4,8 @@ use Rattle.stores.proofs.Memories.{fields, keeps}
 use Rattle.stores.proofs.CellScript.{legible, sound_of}
 use Rattle.stores.proofs.cells.CellSinkSink.keep.Goals as goal
 
-pub invariant-of-self : goal.invariant-of-self
-invariant-of-self c =
+pub invariant_of-self : goal.invariant_of-self
+invariant_of-self c =
     let sink = c.args.self.now in
     fields (keeps cell_script legible (vec_items sink.cells) sink.ledger (sound_of sink) c.keep.result c.keep.new.self c.keep.ensures).sound
 

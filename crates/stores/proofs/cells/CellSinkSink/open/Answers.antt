@@ -7,5 +7,5 @@ use Rattle.stores.proofs.cells.CellSinkSink.open.Goals as goal
 pub returns : goal.returns
 returns c =
     let sink = c.args.self.now in
-    let left = opens cell_script legible (vec_items sink.cells) sink.ledger (sound_of sink) (record { seal = tt }) c.open.new.self c.in-ok-open.ensures in
+    let left = opens cell_script legible (vec_items sink.cells) sink.ledger (sound_of sink) (record { seal = tt }) c.open.new.self c.in_ok-open.ensures in
     record { meaning = left.meaning; order = left.order }

@@ -3,11 +3,11 @@ use Rattle.stores.proofs.Memories.{fields, starts_in}
 use Rattle.stores.proofs.TextScript.{legible}
 use Rattle.stores.proofs.text.TextSink.new.Goals as goal
 
-pub invariant-of-result : goal.invariant-of-result
-invariant-of-result c =
-    fields (starts_in text_script legible c.args.bytes c.deref-mut.result.now c.wipe.new.memory c.deref-mut.ensures.value c.wipe.auto.memory c.len-size.result c.new-ledger.result c.len-size.ensures c.new-ledger.ensures c.wipe.ensures).sound
+pub invariant_of-result : goal.invariant_of-result
+invariant_of-result c =
+    fields (starts_in text_script legible c.args.bytes c.deref_mut.result.now c.wipe.new.memory c.deref_mut.ensures.value c.wipe.auto.memory c.len-size.result c.new-ledger.result c.len-size.ensures c.new-ledger.ensures c.wipe.ensures).sound
 
 pub returns : goal.returns
 returns c =
-    let made = starts_in text_script legible c.args.bytes c.deref-mut.result.now c.wipe.new.memory c.deref-mut.ensures.value c.wipe.auto.memory c.len-size.result c.new-ledger.result c.len-size.ensures c.new-ledger.ensures c.wipe.ensures in
+    let made = starts_in text_script legible c.args.bytes c.deref_mut.result.now c.wipe.new.memory c.deref_mut.ensures.value c.wipe.auto.memory c.len-size.result c.new-ledger.result c.len-size.ensures c.new-ledger.ensures c.wipe.ensures in
     record { fresh = made.fresh; order = made.order; wide = made.wide }

@@ -7,5 +7,5 @@ use Rattle.stores.proofs.text.TextSinkSink.open.Goals as goal
 pub returns : goal.returns
 returns c =
     let sink = c.args.self.now in
-    let left = opens text_script legible (vec_items sink.bytes) sink.ledger (sound_of sink) (record { seal = tt }) c.open.new.self c.in-ok-open.ensures in
+    let left = opens text_script legible (vec_items sink.bytes) sink.ledger (sound_of sink) (record { seal = tt }) c.open.new.self c.in_ok-open.ensures in
     record { meaning = left.meaning; order = left.order }

@@ -3,13 +3,13 @@ use Rattle.stores.proofs.Memories.{fields, strikes_in}
 use Rattle.stores.proofs.TextScript.{legible, sound_of}
 use Rattle.stores.proofs.text.TextSinkSink.strike.Goals as goal
 
-pub invariant-of-self-2 : goal.invariant-of-self-2
-invariant-of-self-2 c =
+pub invariant_of-self-2 : goal.invariant_of-self-2
+invariant_of-self-2 c =
     let sink = c.args.self.now in
-    fields (strikes_in text_script legible sink.bytes c.deref-mut.result.now c.wipe.new.memory c.deref-mut.ensures.value c.wipe.auto.memory sink.ledger (sound_of sink) c.len-size.result c.room-2.result c.len-size.ensures c.strike.new.self c.room.result c.in-ok-strike.ensures c.room.ensures c.room-2.ensures c.wipe.ensures).sound
+    fields (strikes_in text_script legible sink.bytes c.deref_mut.result.now c.wipe.new.memory c.deref_mut.ensures.value c.wipe.auto.memory sink.ledger (sound_of sink) c.len-size.result c.room-2.result c.len-size.ensures c.strike.new.self c.room.result c.in_ok-strike.ensures c.room.ensures c.room-2.ensures c.wipe.ensures).sound
 
 pub returns : goal.returns
 returns c =
     let sink = c.args.self.now in
-    let left = strikes_in text_script legible sink.bytes c.deref-mut.result.now c.wipe.new.memory c.deref-mut.ensures.value c.wipe.auto.memory sink.ledger (sound_of sink) c.len-size.result c.room-2.result c.len-size.ensures c.strike.new.self c.room.result c.in-ok-strike.ensures c.room.ensures c.room-2.ensures c.wipe.ensures in
+    let left = strikes_in text_script legible sink.bytes c.deref_mut.result.now c.wipe.new.memory c.deref_mut.ensures.value c.wipe.auto.memory sink.ledger (sound_of sink) c.len-size.result c.room-2.result c.len-size.ensures c.strike.new.self c.room.result c.in_ok-strike.ensures c.room.ensures c.room-2.ensures c.wipe.ensures in
     record { meaning = left.meaning; order = left.order }

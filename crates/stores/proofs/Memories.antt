@@ -58,13 +58,6 @@ pub record Sound {A : Type 0} (s : Script A) (m : List A) (l : Ledger) : Type 0 
   pub begins : Begins s m l
   pub grew : Grew m l
 
--- the same, as the ghost fields of a sink
-abbrev pub Fields : {A : Type 0} → Script A → List A → Ledger → Type 0
-Fields s m l = Spells s m l × (Clausal s m × (Counts s m l × (Begins s m l × (Grew m l × Unit {0}))))
-
-pub fields : {A : Type 0} {s : Script A} {m : List A} {l : Ledger} → Sound s m l → Fields s m l
-fields sd = (sd.spells, (sd.clausal, (sd.counts, (sd.begins, (sd.grew, tt)))))
-
 -- how a sink is made
 pub record Starts {A : Type 0} (s : Script A) (n : ℕ) (m : List A) (l : Ledger) : Type 0 where
   pub sound : Sound s m l

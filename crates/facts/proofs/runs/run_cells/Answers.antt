@@ -8,9 +8,9 @@ use Rattle.facts.proofs.runs.run_cells.Goals as goal
 pub returns : goal.returns
 returns c =
     let new = c.new-sink.result in
-    let full = c.add-all-answer.new.sink in
+    let full = c.add_all-answer.new.sink in
     let cs = held c.args.clauses.now in
     record {
-      answer = c.add-all-answer.ensures.meaning.answers ∙ answers (stored cell_script (vec_items new.cells) new.ledger) (vec_len c.args.memory) cs c.new-sink.ensures.fresh;
-      memory = holds cell_script (vec_items new.cells) (vec_items full.cells) (vec_items c.into-cells.result) new.ledger full.ledger (vec_len c.args.memory) cs c.add-all-answer.result c.new-sink.ensures.fresh c.new-sink.ensures.order c.add-all-answer.ensures.meaning c.add-all-answer.ensures.order c.into-cells.ensures.order;
+      answer = c.add_all-answer.ensures.meaning.answers ∙ answers (stored cell_script (vec_items new.cells) new.ledger) (vec_len c.args.memory) cs c.new-sink.ensures.fresh;
+      memory = holds cell_script (vec_items new.cells) (vec_items full.cells) (vec_items c.into_cells.result) new.ledger full.ledger (vec_len c.args.memory) cs c.add_all-answer.result c.new-sink.ensures.fresh c.new-sink.ensures.order c.add_all-answer.ensures.meaning c.add_all-answer.ensures.order c.into_cells.ensures.order;
     }

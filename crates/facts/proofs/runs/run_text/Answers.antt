@@ -8,9 +8,9 @@ use Rattle.facts.proofs.runs.run_text.Goals as goal
 pub returns : goal.returns
 returns c =
     let new = c.new-sink.result in
-    let full = c.add-all-answer.new.sink in
+    let full = c.add_all-answer.new.sink in
     let cs = held c.args.clauses.now in
     record {
-      answer = c.add-all-answer.ensures.meaning.answers ∙ answers (stored text_script (vec_items new.bytes) new.ledger) (vec_len c.args.memory) cs c.new-sink.ensures.fresh;
-      memory = holds text_script (vec_items new.bytes) (vec_items full.bytes) (vec_items c.into-bytes.result) new.ledger full.ledger (vec_len c.args.memory) cs c.add-all-answer.result c.new-sink.ensures.fresh c.new-sink.ensures.order c.add-all-answer.ensures.meaning c.add-all-answer.ensures.order c.into-bytes.ensures.order;
+      answer = c.add_all-answer.ensures.meaning.answers ∙ answers (stored text_script (vec_items new.bytes) new.ledger) (vec_len c.args.memory) cs c.new-sink.ensures.fresh;
+      memory = holds text_script (vec_items new.bytes) (vec_items full.bytes) (vec_items c.into_bytes.result) new.ledger full.ledger (vec_len c.args.memory) cs c.add_all-answer.result c.new-sink.ensures.fresh c.new-sink.ensures.order c.add_all-answer.ensures.meaning c.add_all-answer.ensures.order c.into_bytes.ensures.order;
     }

@@ -4,7 +4,7 @@ use Rattle.sinks.specs.Calls.{Appended}
 use Rattle.sinks.specs.Ledgers.{may_charge}
 use Rattle.sinks.specs.Meanings.{Added}
 use Rattle.stores.specs.Cells.{cell_script}
-use Rattle.stores.proofs.Memories.{adding_is, adds_in, fields, refused}
+use Rattle.stores.proofs.Memories.{adding_is, adds_in, refused}
 use Rattle.stores.proofs.CellScript.{fits_in, legible, priced, sound_of}
 use Rattle.stores.proofs.cells.CellSinkSink.add.Goals as goal
 
@@ -24,7 +24,8 @@ write-requires c = search (rules, fits_in)
 pub invariant_of-self-2 : goal.invariant_of-self-2
 invariant_of-self-2 c =
     let sink = c.args.self.now in
-    fields (adds_in cell_script legible sink.cells c.deref_mut.result.now c.write.new.cells c.deref_mut.ensures.value c.write.auto.cells sink.ledger (sound_of sink) c.len.result c.room.result c.len.ensures c.args.clause.now c.price.result c.charge.new.self (priced c.args.clause.now c.price.result c.price.ensures) c.in_ok-charge.ensures c.room.ensures c.write.ensures).sound
+    let sound = (adds_in cell_script legible sink.cells c.deref_mut.result.now c.write.new.cells c.deref_mut.ensures.value c.write.auto.cells sink.ledger (sound_of sink) c.len.result c.room.result c.len.ensures c.args.clause.now c.price.result c.charge.new.self (priced c.args.clause.now c.price.result c.price.ensures) c.in_ok-charge.ensures c.room.ensures c.write.ensures).sound in
+    record { spells = sound.spells; clausal = sound.clausal; counts = sound.counts; begins = sound.begins; grew = sound.grew }
 
 pub returns : goal.returns
 returns c =

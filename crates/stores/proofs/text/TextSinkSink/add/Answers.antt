@@ -3,7 +3,7 @@ use Rattle.std.proofs.lemmas.Result.{err_from_is_err_and}
 use Rattle.sinks.specs.Calls.{Appended}
 use Rattle.sinks.specs.Meanings.{Added}
 use Rattle.stores.specs.Texts.{text_script}
-use Rattle.stores.proofs.Memories.{adding_is, adds_in, fields, fits, refused}
+use Rattle.stores.proofs.Memories.{adding_is, adds_in, fits, refused}
 use Rattle.stores.proofs.Lines.{charges_length}
 use Rattle.stores.proofs.TextScript.{legible, room_small, sound_of}
 use Rattle.stores.proofs.text.TextSinkSink.add.Goals as goal
@@ -30,7 +30,8 @@ pub invariant_of-self-2 : goal.invariant_of-self-2
 invariant_of-self-2 c =
     let sink = c.args.self.now in
     let ends = charges_length _ c.args.clause.now c.price.result sink.ledger c.charge.new.self c.price.ensures (room_small sink) c.in_ok-charge.ensures in
-    fields (adds_in text_script legible sink.bytes c.deref_mut.result.now c.write_line.new.bytes c.deref_mut.ensures.value c.write_line.auto.bytes sink.ledger (sound_of sink) c.len.result c.room.result c.len.ensures c.args.clause.now _ c.charge.new.self refl ends c.room.ensures c.write_line.ensures).sound
+    let sound = (adds_in text_script legible sink.bytes c.deref_mut.result.now c.write_line.new.bytes c.deref_mut.ensures.value c.write_line.auto.bytes sink.ledger (sound_of sink) c.len.result c.room.result c.len.ensures c.args.clause.now _ c.charge.new.self refl ends c.room.ensures c.write_line.ensures).sound in
+    record { spells = sound.spells; clausal = sound.clausal; counts = sound.counts; begins = sound.begins; grew = sound.grew }
 
 pub returns : goal.returns
 returns c =

@@ -13,8 +13,8 @@ use Rattle.project.specs.declared.tables.Kind.TheVariants.{Blank, And, Or, Bi}
 use Rattle.project.specs.declared.tables.Pair.{Pair}
 use Rattle.book.specs.declared.lines.LineKind.{LineKind}
 use Rattle.book.specs.declared.lines.LineKind.TheVariants.{Capacities, Job, Pairing, Trailer}
-use Rattle.book.specs.Accepted.{Says, Misplaced, Over, Unpaired, Crowded, Fault, capacities_in, activities_in, pairs_in, or_lines, first, second, is_job, is_pairing, is_or_line, Sizes}
-use Rattle.book.specs.Lines.{Content, spelled, formed, fewest, most}
+use Rattle.book.specs.Accepted.{Says, Misplaced, Over, Unpaired, Crowded, Fault, capacities_in, activities_in, pairs_in, or_lines, second, is_job, is_pairing, is_or_line, Sizes}
+use Rattle.book.specs.Lines.{Content, formed, fewest, most}
 use Rattle.book.specs.Reading.{Sofar, resources_of, padded, activity_of, pair_of, extended, is_nil, in_order, at_most, limited, paired, roomy, judged}
 use Rattle.book.specs.Written.{capacities_line, activity_line, pair_line, body}
 use Rattle.book.proofs.Bodies.{Kept, Passed, first_grown, grown, nil_from_is_nil, decides_at_most, padded_front, padded_past}

@@ -102,7 +102,7 @@ mod tests {
         let mut out = [7; 32];
         assert_eq!(rt; book::write(&HEAD, &ACTIVITIES, &PAIRS, &mut out), Ok(29));
         assert_eq!(rt; &out[0..29], TEXT);
-        assert_eq!(rt; &out[29..32], &[7, 7, 7]);
+        assert_eq!(rt; &out[29..32], [7, 7, 7].as_slice());
     }
 
     #[test]
@@ -112,7 +112,7 @@ mod tests {
             book::write(&HEAD, &ACTIVITIES, &PAIRS, &mut out),
             Err(Refusal::ShortBuffer)
         );
-        assert_eq!(rt; &out[..], &[7; 28]);
+        assert_eq!(rt; &out[..], [7; 28].as_slice());
     }
 
     #[test]
@@ -123,6 +123,6 @@ mod tests {
             book::write(&head, &ACTIVITIES, &PAIRS, &mut out),
             Err(Refusal::RulesBroken)
         );
-        assert_eq!(rt; &out[..], &[7; 32]);
+        assert_eq!(rt; &out[..], [7; 32].as_slice());
     }
 }

@@ -1,6 +1,6 @@
 -- The tests of one pair: which pairs are the same, and which are OR pairs into an activity. Assumes nothing.
 use denote.Enum.Bare.{sameb}
-use Rattle.std.proofs.Common.{◌≡◌, ℕ, true, false, ◌&&◌, eqb, Decides, refl, sym, ap, ◌∙◌, subst, ⊎_elim}
+use Rattle.std.proofs.Common.{◌≡◌, ℕ, true, false, ◌&&◌, eqb, Decides, refl, ap, subst, ⊎_elim}
 use Rattle.std.proofs.lemmas.Bool.{false≢true, and_parts, and_from, and_left, and_right, eqb-true, eq-eqb, ne_eqb, cases_Bool}
 use Rattle.project.specs.contracts.tables.Kind.{the_type}
 use Rattle.project.specs.declared.tables.Kind.{Kind}

@@ -3,7 +3,7 @@ use Rattle.std.proofs.Common.{◌≡◌, ℕ, suc, ◌+◌, ◌-◌, ◌<◌, �
 use lib.Signed.{lt_z}
 use Rattle.std.proofs.lemmas.List.{drop_all, get_or_past}
 use Rattle.std.proofs.lemmas.Bool.{and_parts, leb-true, le-ltb, ltb-false}
-use Rattle.sinks.specs.Clauses.{Assignment, variable, literal, literals, clausal, holds, meets, last_variable}
+use Rattle.sinks.specs.Clauses.{Assignment, variable, literal, literals, holds, meets, last_variable}
 use Rattle.sinks.specs.Calls.{Add, Ends}
 use Rattle.sinks.specs.Judges.{given, Given, GivenIf, judged, no_cost}
 use Rattle.sinks.specs.Ledgers.{charged, may_charge, price}

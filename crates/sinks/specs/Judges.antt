@@ -1,5 +1,5 @@
 -- What a judge means. Assumes nothing.
-use Rattle.std.specs.Prelude.{◌≡◌, ℕ, ◌-◌, ◌≤◌, Bool, true, false, List, ℤ, ◌==◌, slice_index}
+use Rattle.std.specs.Prelude.{◌≡◌, ℕ, ◌-◌, ◌≤◌, Bool, true, List, ℤ, ◌==◌, slice_index}
 use Rattle.sinks.specs.Clauses.{Assignment, last_variable}
 use Rattle.sinks.specs.Ledgers.{meaning}
 use Rattle.sinks.specs.Meanings.{Meaning}

@@ -8,7 +8,7 @@ use Rattle.std.proofs.ByRecursion.{All-append, All-weaker}
 use Rattle.std.proofs.lemmas.Str.Parse.{without_leading_plus_none, digit_at, digit_from_value}
 use Rattle.std.proofs.lemmas.Bool.{and_parts, leb-true, ne_eqb, cond-false}
 use Rattle.sinks.proofs.Literals.{clause_literals}
-use Rattle.sinks.specs.Clauses.{variable, last_variable, literal, literals, clausal}
+use Rattle.sinks.specs.Clauses.{variable, last_variable, literal, literals}
 use Rattle.stores.specs.Scripts.{Legible, parts}
 use Rattle.stores.specs.declared.text.TextSink.{TextSink}
 use Rattle.stores.specs.Texts.{lf, space, hard, zero_digit, spaced, line, clause_in, text_script}

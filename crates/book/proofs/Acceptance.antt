@@ -1,7 +1,7 @@
 -- A book is accepted, with a project, just where it is the book of that project; and what is written reads back.
 -- Assumes nothing.
 use Rattle.std.proofs.Common.{◌≡◌, ℕ, suc, ◌+◌, ◌*◌, ◌^◌, ◌<◌, ◌≤◌, Bool, true, false, cond, ◌&&◌, eqb, leb, List, [], ◌∷◌, ◌++◌, map, length, take, Some, None, Ok, Err, Option, Result, sym, refl, ap, ◌∙◌, subst, inl, suc-mul, arith}
-use Rattle.std.specs.List.{flat_map, AllByRecursion as All}
+use Rattle.std.specs.List.{flat_map, AllByRecursion}
 use Rattle.std.proofs.lemmas.Fmt.{length-decimal-le}
 use Rattle.std.proofs.ByRecursion.{All-map, All-weaker}
 use Rattle.std.proofs.lemmas.List.{length-append, length-map}
@@ -35,7 +35,7 @@ pub book_framed : (z : Sizes) (bs cover : List ℕ) (p : Project) → Kept z p �
 book_framed z bs cover p kept ended whole short = record {
   whole = whole ∙ ap (λ l. cover ++ l) (written_is (length cover) p);
   ended = ended;
-  lines = All-map (All (λ b. b ≡ lf → ⊥)) spelled (body p) (All-weaker Brief (λ x. All (λ b. b ≡ lf → ⊥) (spelled x)) (λ x b. spelled_no_lf x b.sayable) (body p) (body_brief z p kept));
+  lines = All-map (AllByRecursion (λ b. b ≡ lf → ⊥)) spelled (body p) (All-weaker Brief (λ x. AllByRecursion (λ b. b ≡ lf → ⊥) (spelled x)) (λ x b. spelled_no_lf x b.sayable) (body p) (body_brief z p kept));
   counted = let long = length_body p in let few = kept.activities in let low = kept.pairs in omega arith;
   short = short;
 }
@@ -94,7 +94,7 @@ accepts z bs p = (read_book z bs p, book_reads z bs p)
 
 -- How long a written project is.
 
-length_joined_le : {X A : Type 0} (f : X → List A) (m : ℕ) (xs : List X) → All (λ x. length (f x) ≤ m) xs → length (flat_map f xs) ≤ length xs * m
+length_joined_le : {X A : Type 0} (f : X → List A) (m : ℕ) (xs : List X) → AllByRecursion (λ x. length (f x) ≤ m) xs → length (flat_map f xs) ≤ length xs * m
 length_joined_le f m [] h = omega arith
 length_joined_le f m (x ∷ xs) h =
     let here = h.0 in

@@ -1,7 +1,7 @@
 -- Reading the lines of a body: they are read just where they are the lines of a project that keeps its rules, and give
 -- that project. Assumes nothing.
 use Rattle.std.proofs.Common.{◌≡◌, ℕ, suc, ◌+◌, ◌-◌, ◌^◌, ◌<◌, ◌≤◌, Bool, true, false, cond, not, ◌&&◌, ltb, leb, List, [], ◌∷◌, ◌++◌, map, length, get_or, take, drop, replicate, Some, None, Ok, Err, Decides, Option, Result, sym, refl, ap, ◌∙◌, subst, ⊎_elim, add-zero, arith}
-use Rattle.std.specs.List.{flat_map, AllByRecursion as All}
+use Rattle.std.specs.List.{flat_map, AllByRecursion}
 use Rattle.std.proofs.ByRecursion.{All-append, All-get_or, All-from_get_or, All-map, All-push, All-weaker, Decides-by_and}
 use Rattle.std.proofs.lemmas.List.{append-nil, append_assoc, length-append, length-drop, length_push, length-replicate, length-take-le, map-append, map_push, take-append-drop, take_at, get_or_append_left, get_or-append_right, get_or-drop, get_or_past, get_or-replicate, get_or-take}
 use Rattle.std.proofs.lemmas.Bool.{and_parts, and_from, both_ways, false≢true, cases_lt, ltb-true, lt-ltb, cond-false, not_from_true}
@@ -65,12 +65,12 @@ pub record Kept (z : Sizes) (p : Project) : Type 0 where
   pub head : Headed p.resources p.capacities
   pub activities : length p.activities ≤ most_activities
   pub activity_table : length p.activities ≤ z.activities
-  pub shaped : All (λ a. length a.demands ≡ most_resources) p.activities
-  pub durations : All (λ a. a.duration ≤ most_duration) p.activities
-  pub demands : All (λ a. (k : ℕ) → demand a k ≤ get_or p.capacities k 0) p.activities
+  pub shaped : AllByRecursion (λ a. length a.demands ≡ most_resources) p.activities
+  pub durations : AllByRecursion (λ a. a.duration ≤ most_duration) p.activities
+  pub demands : AllByRecursion (λ a. (k : ℕ) → demand a k ≤ get_or p.capacities k 0) p.activities
   pub pairs : length p.pairs ≤ most_pairs
   pub pair_table : length p.pairs ≤ z.pairs
-  pub proper : All (Proper (length p.activities)) p.pairs
+  pub proper : AllByRecursion (Proper (length p.activities)) p.pairs
   pub once : Once p.pairs
   pub or_few : Few p.pairs
 
@@ -163,7 +163,7 @@ judged_from_step z s l q t =
 
 -- What a line that is read adds to the body and to the rules.
 
-pub decides_at_most : (limit : ℕ) (ns : List ℕ) → Decides (at_most limit ns) (All (λ n. n ≤ limit) ns)
+pub decides_at_most : (limit : ℕ) (ns : List ℕ) → Decides (at_most limit ns) (AllByRecursion (λ n. n ≤ limit) ns)
 decides_at_most limit ns =
     Decides-by_and (λ n. leb n limit) (λ n. n ≤ limit) (at_most limit) (λ n. decides_leb n limit) refl (λ _ _. refl) ns
 
@@ -239,7 +239,7 @@ grown z p Job (d ∷ ms) kept enough few t =
         demands = All-push (λ a. (k : ℕ) → demand a k ≤ get_or p.capacities k 0) p.activities a kept.demands fits.1;
         pairs = kept.pairs;
         pair_table = kept.pair_table;
-        proper = subst (All (Proper (length (p.activities ++ a ∷ [])))) (sym none) tt;
+        proper = subst (AllByRecursion (Proper (length (p.activities ++ a ∷ [])))) (sym none) tt;
         once = kept.once;
         or_few = kept.or_few;
       },
@@ -316,7 +316,7 @@ low_all n cs h k =
     ⊎_elim (λ lt. h.low k lt) (λ le. let none = h.unused k le in omega arith) (cases_lt k n)
 
 -- the first n of numbers that are at most the capacities can be said
-front_small : (n : ℕ) (cs xs : List ℕ) → Headed n cs → length xs ≡ most_resources → ((k : ℕ) → get_or xs k 0 ≤ get_or cs k 0) → All (λ m. m < 10 ^ most_digits) (take n xs)
+front_small : (n : ℕ) (cs xs : List ℕ) → Headed n cs → length xs ≡ most_resources → ((k : ℕ) → get_or xs k 0 ≤ get_or cs k 0) → AllByRecursion (λ m. m < 10 ^ most_digits) (take n xs)
 front_small n cs xs h long under =
     let front = length-take-le n xs (let few = h.few in omega arith) in
     All-from_get_or (λ m. m < 10 ^ most_digits) (take n xs) 0 λ k lt.
@@ -358,7 +358,7 @@ pair_brief n q some names =
       few = omega arith;
     }
 
-pub body_brief : (z : Sizes) (p : Project) → Kept z p → All Brief (body p)
+pub body_brief : (z : Sizes) (p : Project) → Kept z p → AllByRecursion Brief (body p)
 body_brief z p kept = (
   capacities_brief p.resources p.capacities kept.head,
   All-append Brief (map (activity_line p.resources) p.activities) (map pair_line p.pairs)
@@ -366,7 +366,7 @@ body_brief z p kept = (
       (All-map Brief pair_line p.pairs (All-weaker (Proper (length p.activities)) (λ q. Brief (pair_line q)) (λ q. pair_brief (length p.activities) q kept.activities) p.pairs kept.proper)),
 )
   where
-    activities : (acts : List Activity) → All (λ a. length a.demands ≡ most_resources) acts → All (λ a. a.duration ≤ most_duration) acts → All (λ a. (k : ℕ) → demand a k ≤ get_or p.capacities k 0) acts → All Brief (map (activity_line p.resources) acts)
+    activities : (acts : List Activity) → AllByRecursion (λ a. length a.demands ≡ most_resources) acts → AllByRecursion (λ a. a.duration ≤ most_duration) acts → AllByRecursion (λ a. (k : ℕ) → demand a k ≤ get_or p.capacities k 0) acts → AllByRecursion Brief (map (activity_line p.resources) acts)
     activities [] long short under = tt
     activities (a ∷ acts) long short under =
         (activity_brief p.resources p.capacities a kept.head long.0 short.0 under.0, activities acts long.1 short.1 under.1)
@@ -424,7 +424,7 @@ pair_step z p q some is after low free =
       gives = refl;
     }
 
-activities_read : (z : Sizes) (p : Project) (rest : List Activity) → Headed p.resources p.capacities → p.pairs ≡ [] → All (λ a. length a.demands ≡ most_resources) rest → All (λ a. a.duration ≤ most_duration) rest → All (λ a. (k : ℕ) → demand a k ≤ get_or p.capacities k 0) rest → length p.activities + length rest ≤ most_activities → length p.activities + length rest ≤ z.activities → Reads z (Some p) (map spelled (map (activity_line p.resources) rest)) (with_activities p rest)
+activities_read : (z : Sizes) (p : Project) (rest : List Activity) → Headed p.resources p.capacities → p.pairs ≡ [] → AllByRecursion (λ a. length a.demands ≡ most_resources) rest → AllByRecursion (λ a. a.duration ≤ most_duration) rest → AllByRecursion (λ a. (k : ℕ) → demand a k ≤ get_or p.capacities k 0) rest → length p.activities + length rest ≤ most_activities → length p.activities + length rest ≤ z.activities → Reads z (Some p) (map spelled (map (activity_line p.resources) rest)) (with_activities p rest)
 activities_read z p [] h none long short under low free =
     reads_none z p (with_activities p []) (λ i. record { resources = p.resources; capacities = p.capacities; activities = sym (append-nil p.activities) i; pairs = p.pairs })
 activities_read z p (a ∷ rest) h none long short under low free =

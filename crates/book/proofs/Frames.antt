@@ -1,6 +1,6 @@
 -- How a book is cut: bytes into lines and back, and the trailer. Assumes nothing.
 use Rattle.std.proofs.Common.{◌≡◌, ℕ, zero, suc, ◌+◌, ◌-◌, ◌^◌, ◌<◌, ◌≤◌, Bool, true, false, cond, ◌&&◌, eqb, leb, ◌⊎◌, List, [], ◌∷◌, ◌++◌, reverse, length, get_or, take, drop, Some, None, Option, sym, refl, ap, ◌∙◌, subst, inl, inr, arith}
-use Rattle.std.specs.List.{between, flat_map, suffix_len, prefix_len, AllByRecursion as All}
+use Rattle.std.specs.List.{between, flat_map, suffix_len, prefix_len, AllByRecursion}
 use Rattle.std.proofs.ByRecursion.{All-push}
 use Rattle.std.proofs.lemmas.List.{append_assoc, append-nil, length-append, reverse-append, length-reverse, take_at, drop_at, get_or_at, take_more, take-append-le, length-take-le, take_all, get_or_past, length-drop, take-append-drop}
 use Rattle.std.proofs.lemmas.Slice.{between_is}
@@ -15,7 +15,7 @@ use Rattle.book.proofs.Spelling.{none_some, formed_says, says_formed, spelled_no
 
 -- no byte of it is LF
 abbrev pub Free : List ℕ → Type 0
-Free l = All (λ b. b ≡ lf → ⊥) l
+Free l = AllByRecursion (λ b. b ≡ lf → ⊥) l
 
 -- Lines.
 
@@ -24,20 +24,20 @@ first_line [] rest h = refl
 first_line (b ∷ l) rest h = rw (ne_eqb b lf h.0, first_line l rest h.1)
 
 -- lines without LF, each with its LF, are cut as they were
-pub lines_joined : (ls : List (List ℕ)) → All Free ls → lines (flat_map with_lf ls) ≡ ls
+pub lines_joined : (ls : List (List ℕ)) → AllByRecursion Free ls → lines (flat_map with_lf ls) ≡ ls
 lines_joined [] h = refl
 lines_joined (l ∷ ls) h =
     ap lines (append_assoc l (lf ∷ []) (flat_map with_lf ls)) ∙ first_line l (flat_map with_lf ls) h.0 ∙ ap (λ r. l ∷ r) (lines_joined ls h.1)
 
-onto_free : (b : ℕ) (ls : List (List ℕ)) → (b ≡ lf → ⊥) → All Free ls → All Free (onto b ls)
+onto_free : (b : ℕ) (ls : List (List ℕ)) → (b ≡ lf → ⊥) → AllByRecursion Free ls → AllByRecursion Free (onto b ls)
 onto_free b [] h k = ((h, tt), tt)
 onto_free b (l ∷ ls) h k = ((h, k.0), k.1)
 
-pub lines_no_lf : (bs : List ℕ) → All Free (lines bs)
+pub lines_no_lf : (bs : List ℕ) → AllByRecursion Free (lines bs)
 lines_no_lf [] = tt
 lines_no_lf (b ∷ bs) = step (cases_eq b lf) (lines_no_lf bs)
   where
-    step : (b ≡ lf) ⊎ (b ≡ lf → ⊥) → All Free (lines bs) → All Free (lines (b ∷ bs))
+    step : (b ≡ lf) ⊎ (b ≡ lf → ⊥) → AllByRecursion Free (lines bs) → AllByRecursion Free (lines (b ∷ bs))
     step (inl e) h = rw e (tt, h)
     step (inr e) h = rw (ne_eqb b lf e) (onto_free b (lines bs) e h)
 
@@ -260,7 +260,7 @@ module _ (bs front z : List ℕ) (whole : bs ≡ front ++ (z ++ lf ∷ [])) (end
           ∙ ap (λ r. take t.start bs ++ (flat_map with_lf (body_lines bs t) ++ (r ++ lf ∷ []))) text_is;
       ended = ended_take bs t.start (omega (arith, long, points.low)) points.starts;
       lines = lines_no_lf (between t.start t.place bs);
-      counted = (subst (All (λ n. n < 10 ^ most_digits)) numbers_are (formed_says 0 z x says).0.small).1.0;
+      counted = (subst (AllByRecursion (λ n. n < 10 ^ most_digits)) numbers_are (formed_says 0 z x says).0.small).1.0;
       short = short;
     },
     cover_long,

@@ -1,6 +1,6 @@
 -- What the loop over a book's lines keeps, and what it comes to. Assumes nothing.
 use Rattle.std.proofs.Common.{◌≡◌, ℕ, suc, ◌+◌, ◌-◌, ◌<◌, ◌≤◌, Bool, true, false, cond, not, ◌&&◌, eqb, leb, List, [], ◌∷◌, ◌++◌, length, take, drop, replicate, is_err, Some, None, Ok, Err, Option, Result, sym, refl, ap, ◌∙◌, subst, append_assoc, add-one, one-add, arith}
-use Rattle.std.specs.List.{between, flat_map, prefix_len, AllByRecursion as All}
+use Rattle.std.specs.List.{between, flat_map, prefix_len, AllByRecursion}
 use Rattle.std.proofs.lemmas.List.{length-append, length_push, length-take-le, drop_at, drop-drop, take_at}
 use Rattle.std.proofs.lemmas.Bool.{ne_eqb, true≢false}
 use Rattle.project.specs.Project.{Project, project_of, head_of, filled, blank_activity, blank_pair}
@@ -34,7 +34,7 @@ pairs_known (Some h) = h.pairs
 pub record Midway (bs : List ℕ) (t : Trailed) (acts₀ : List Activity) (ps₀ : List Pair) (sofar : Option Head) (at count : ℕ) (acts : List Activity) (ps : List Pair) : Type 0 where
   pub rest : List (List ℕ)
   pub text : drop at bs ≡ flat_map with_lf rest ++ drop t.place bs
-  pub free : All Free rest
+  pub free : AllByRecursion Free rest
   pub here : at + length (flat_map with_lf rest) ≡ t.place
   pub within : t.place ≤ length bs
   pub short : length bs ≤ most_bytes
@@ -136,10 +136,10 @@ pub record Turn (bs : List ℕ) (t : Trailed) (rest : List (List ℕ)) (at end :
   pub ends : end ≡ at + length first
   pub before : end < t.place
   pub text : drop (end + 1) bs ≡ flat_map with_lf more ++ drop t.place bs
-  pub free : All Free more
+  pub free : AllByRecursion Free more
   pub here : (end + 1) + length (flat_map with_lf more) ≡ t.place
 
-turn_of : (bs : List ℕ) (t : Trailed) (rest : List (List ℕ)) (at end : ℕ) → drop at bs ≡ flat_map with_lf rest ++ drop t.place bs → All Free rest → at + length (flat_map with_lf rest) ≡ t.place → at < t.place → end ≡ at + prefix_len (other lf) (drop at bs) → Turn bs t rest at end
+turn_of : (bs : List ℕ) (t : Trailed) (rest : List (List ℕ)) (at end : ℕ) → drop at bs ≡ flat_map with_lf rest ++ drop t.place bs → AllByRecursion Free rest → at + length (flat_map with_lf rest) ≡ t.place → at < t.place → end ≡ at + prefix_len (other lf) (drop at bs) → Turn bs t rest at end
 turn_of bs t [] at end text free here lt is = absurd (omega arith)
 turn_of bs t (l ∷ more) at end text free here lt is =
     let after = flat_map with_lf more ++ drop t.place bs in

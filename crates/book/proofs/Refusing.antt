@@ -1,6 +1,6 @@
 -- A book is refused exactly where the format says, and what is read is written back. Assumes nothing.
 use Rattle.std.proofs.Common.{◌≡◌, ℕ, suc, ◌+◌, ◌<◌, ◌≤◌, Bool, true, false, cond, ◌&&◌, eqb, leb, ◌⊎◌, List, [], ◌∷◌, ◌++◌, map, length, get_or, take, Some, None, Ok, Err, Option, Result, sym, refl, ap, ◌∙◌, subst, inl, inr, ⊎_elim, arith}
-use Rattle.std.specs.List.{flat_map, AllByRecursion as All}
+use Rattle.std.specs.List.{flat_map, AllByRecursion}
 use Rattle.std.proofs.ByRecursion.{All-push, All-take}
 use Rattle.std.proofs.lemmas.List.{append_assoc, append-nil, length-append, length-map, take-map, take_at, take-append-le, get_or_at, get_or_append_left, get_or_push, flat_map_more, map_push, nil_from_length}
 use Rattle.std.proofs.lemmas.Bool.{cond-false, cases_lt, cases_order, and_cases, and_left, and_right, eqb-false, ne_eqb, leb-false, lt-leb}
@@ -24,7 +24,7 @@ same_content x y s t e =
     let o = sym (content_spelled x s) ∙ ap (λ l. content_of (words l)) e ∙ content_spelled y t in
     cc
 
-same_contents : (xs ys : List Content) → All Sayable xs → All Sayable ys → map spelled xs ≡ map spelled ys → xs ≡ ys
+same_contents : (xs ys : List Content) → AllByRecursion Sayable xs → AllByRecursion Sayable ys → map spelled xs ≡ map spelled ys → xs ≡ ys
 same_contents [] [] s t e = refl
 same_contents [] (y ∷ ys) s t e = absurd (differs (cc))
 same_contents (x ∷ xs) [] s t e = absurd (differs (cc))

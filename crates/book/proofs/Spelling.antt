@@ -1,6 +1,6 @@
 -- A line that has its form spells what it says, and a spelling has the form of what it spells. Assumes nothing.
 use Rattle.std.proofs.Common.{◌≡◌, ℕ, ◌^◌, ◌<◌, ◌≤◌, Bool, true, false, cond, not, ◌||◌, eqb, leb, List, [], ◌∷◌, ◌++◌, map, length, get_or, Some, None, decimal, Option, sym, refl, ap, ◌∙◌, subst, ⊎_elim, arith}
-use Rattle.std.specs.List.{flat_map, AllByRecursion as All}
+use Rattle.std.specs.List.{flat_map, AllByRecursion}
 use Rattle.std.specs.Str.Parse.{digits_value}
 use Rattle.std.specs.Int.{IsInRange}
 use Rattle.std.specs.Str.{all_ascii_digits}
@@ -22,11 +22,11 @@ none_some e = let z : ◌≡◌ {A = ℕ} 0 1 = cc in omega arith
 own : IsNumeralModel (λ ds. all_ascii_digits ds ≡ true) (digits_value 10)
 own = numerals_by_value _ tells_all_ascii_digits
 
-digits_all : (ds : List ℕ) → all_ascii_digits ds ≡ true → All (IsInRange 48 57) ds
+digits_all : (ds : List ℕ) → all_ascii_digits ds ≡ true → AllByRecursion (IsInRange 48 57) ds
 digits_all [] h = tt
 digits_all (d ∷ ds) h = let p = tells_all_ascii_digits.parts d ds h in (p.0, digits_all ds p.1)
 
-decimal_all : (n : ℕ) → n < 10 ^ most_digits → All (IsInRange 48 57) (decimal n)
+decimal_all : (n : ℕ) → n < 10 ^ most_digits → AllByRecursion (IsInRange 48 57) (decimal n)
 decimal_all n h = digits_all (decimal n) (digits_decimal own n (omega arith))
 
 no_needless : (n : ℕ) → n < 10 ^ most_digits → (not (eqb (get_or (decimal n) 0 0) 48) || eqb (length (decimal n)) 1) ≡ true
@@ -58,28 +58,28 @@ decimal_numeral ds n e = go (is_numeral ds) refl e
         (sym back ∙ ap decimal same, omega arith)
     go false is e' = absurd (none_some e')
 
-pub numerals_decimals : (ns : List ℕ) → All (λ n. n < 10 ^ most_digits) ns → numerals (map decimal ns) ≡ Some ns
+pub numerals_decimals : (ns : List ℕ) → AllByRecursion (λ n. n < 10 ^ most_digits) ns → numerals (map decimal ns) ≡ Some ns
 numerals_decimals [] h = refl
 numerals_decimals (n ∷ ns) h = rw (numeral_decimal n h.0, numerals_decimals ns h.1)
 
-pub decimals_numerals : (ws : List (List ℕ)) (ns : List ℕ) → numerals ws ≡ Some ns → (ws ≡ map decimal ns) × All (λ n. n < 10 ^ most_digits) ns
+pub decimals_numerals : (ws : List (List ℕ)) (ns : List ℕ) → numerals ws ≡ Some ns → (ws ≡ map decimal ns) × AllByRecursion (λ n. n < 10 ^ most_digits) ns
 decimals_numerals [] [] e = (refl, tt)
 decimals_numerals [] (n ∷ ns) e = absurd (let z : ◌≡◌ {A = ℕ} 0 1 = cc in omega arith)
 decimals_numerals (w ∷ ws) ns e = go (numeral w) refl (numerals ws) refl e (decimals_numerals ws)
   where
-    go : (o : Option ℕ) → numeral w ≡ o → (p : Option (List ℕ)) → numerals ws ≡ p → before o p ≡ Some ns → ((ms : List ℕ) → numerals ws ≡ Some ms → (ws ≡ map decimal ms) × All (λ n. n < 10 ^ most_digits) ms) → ((w ∷ ws) ≡ map decimal ns) × All (λ n. n < 10 ^ most_digits) ns
+    go : (o : Option ℕ) → numeral w ≡ o → (p : Option (List ℕ)) → numerals ws ≡ p → before o p ≡ Some ns → ((ms : List ℕ) → numerals ws ≡ Some ms → (ws ≡ map decimal ms) × AllByRecursion (λ n. n < 10 ^ most_digits) ms) → ((w ∷ ws) ≡ map decimal ns) × AllByRecursion (λ n. n < 10 ^ most_digits) ns
     go None a p b e' rest = absurd (none_some e')
     go (Some m) a None b e' rest = absurd (none_some e')
     go (Some m) a (Some ms) b e' rest =
         let same : (m ∷ ms) ≡ ns = cc in
         let one = decimal_numeral w m a in
         let more = rest ms b in
-        subst (λ l. ((w ∷ ws) ≡ map decimal l) × All (λ n. n < 10 ^ most_digits) l) same ((λ i. one.0 i ∷ more.0 i), (one.1, more.1))
+        subst (λ l. ((w ∷ ws) ≡ map decimal l) × AllByRecursion (λ n. n < 10 ^ most_digits) l) same ((λ i. one.0 i ∷ more.0 i), (one.1, more.1))
 
 -- The words of a line.
 
 abbrev Clear : List ℕ → Type 0
-Clear w = All (λ b. b ≡ space → ⊥) w
+Clear w = AllByRecursion (λ b. b ≡ space → ⊥) w
 
 abbrev spaced_word : List ℕ → List ℕ
 spaced_word w = space ∷ w
@@ -94,7 +94,7 @@ words_front [] r ws c e = e
 words_front (b ∷ w) r ws c e =
     cond-false (eqb b space) _ _ (ne_eqb b space c.0) ∙ ap (onto b) (words_front w r ws c.1 e)
 
-pub words_unwords : (w : List ℕ) (ws : List (List ℕ)) → Clear w → All Clear ws → words (unwords (w ∷ ws)) ≡ w ∷ ws
+pub words_unwords : (w : List ℕ) (ws : List (List ℕ)) → Clear w → AllByRecursion Clear ws → words (unwords (w ∷ ws)) ≡ w ∷ ws
 words_unwords w [] c h = words_front w [] [] c refl
 words_unwords w (v ∷ ws) c h =
     words_front w (spaced_word v ++ flat_map spaced_word ws) (v ∷ ws) c (ap (λ l. [] ∷ l) (words_unwords v ws h.0 h.1))
@@ -223,9 +223,9 @@ says_formed k x s low high =
     ∙ cond-true (counted k x) (Some x) None (and_from _ _ (le-leb _ _ low) (le-leb _ _ high))
 
 -- a spelling is one line
-pub spelled_no_lf : (x : Content) → Sayable x → All (λ b. b ≡ lf → ⊥) (spelled x)
+pub spelled_no_lf : (x : Content) → Sayable x → AllByRecursion (λ b. b ≡ lf → ⊥) (spelled x)
 spelled_no_lf x s = (letter_high lf (omega arith) (omega arith) x.kind, numbers x.numbers s.small)
   where
-    numbers : (ns : List ℕ) → All (λ n. n < 10 ^ most_digits) ns → All (λ b. b ≡ lf → ⊥) (flat_map spaced ns)
+    numbers : (ns : List ℕ) → AllByRecursion (λ n. n < 10 ^ most_digits) ns → AllByRecursion (λ b. b ≡ lf → ⊥) (flat_map spaced ns)
     numbers [] h = tt
     numbers (n ∷ ns) h = All-append (λ b. b ≡ lf → ⊥) (spaced n) (flat_map spaced ns) ((λ e. omega arith), All-weaker (IsInRange 48 57) (λ b. b ≡ lf → ⊥) (λ b d e. omega arith) (decimal n) (decimal_all n h.0)) (numbers ns h.1)

@@ -1,7 +1,7 @@
 -- What the format says of a book as a whole: which text is the book of a project, and what is wrong with any other.
 -- None of it follows the reader's steps. Assumes nothing.
 use Rattle.std.specs.Prelude.{◌≡◌, ℕ, suc, ◌+◌, ◌^◌, ◌<◌, ◌≤◌, Bool, true, false, ◌&&◌, ◌⊎◌, List, [], ◌∷◌, ◌++◌, map, length, take, Ok, count_by, Result, ◌==◌, ◌≢◌, slice_index, slice_index_or}
-use Rattle.std.specs.List.{flat_map, ContainsAt as Has, AllByRecursion as All}
+use Rattle.std.specs.List.{flat_map, ContainsAt as Has, AllByRecursion}
 use Rattle.project.specs.Project.{Project, head_of, filled, Shaped, Rules, is_or, most_activities, most_capacity, most_duration, most_pairs, most_or_predecessors}
 use Rattle.project.specs.declared.refusal.Refusal.{Refusal}
 use Rattle.project.specs.declared.tables.Activity.{Activity}
@@ -52,14 +52,14 @@ pub record Gave (acts : List Activity) (ps : List Pair) (r : Result Head Refusal
 pub record Framed (bs cover : List ℕ) (ls : List (List ℕ)) (count : ℕ) : Type 0 where
   pub whole : bs ≡ cover ++ (flat_map with_lf ls ++ line (trailer_line (length cover) count))
   pub ended : Ended cover
-  pub lines : All (All (λ b. b ≢ lf)) ls
+  pub lines : AllByRecursion (AllByRecursion (λ b. b ≢ lf)) ls
   pub counted : count < 10 ^ most_digits
   pub short : length bs ≤ most_bytes
 
 -- a line can say x: it has a letter, and each number has at most five digits
 pub record Sayable (x : Content) : Type 0 where
   pub lettered : x.kind ≡ Pairing Blank → ⊥
-  pub small : All (λ n. n < 10 ^ most_digits) x.numbers
+  pub small : AllByRecursion (λ n. n < 10 ^ most_digits) x.numbers
 
 -- what the lines so far say of the project: its capacities, which the first of them gives, and its activities and pairs
 abbrev pub capacities_in : List Content → List ℕ
@@ -147,7 +147,7 @@ pub data Fault (z : Sizes) (before : List Content) (l : List ℕ) (n : ℕ) : Ty
 
 -- no line of these has a fault, and they say xs
 pub record Faultless (z : Sizes) (ls : List (List ℕ)) (xs : List Content) : Type 0 where
-  pub sayable : All Sayable xs
+  pub sayable : AllByRecursion Sayable xs
   pub spelled : ls ≡ map spelled xs
   pub clean : (i : ℕ) → i < length ls → (n : ℕ) → Fault z (take i xs) (slice_index_or ls i []) n → ⊥
 

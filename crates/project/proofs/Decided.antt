@@ -1,6 +1,6 @@
 -- The test of the rules holds exactly where a head and two tables keep them. Assumes nothing.
 use Rattle.std.proofs.Common.{◌≤◌, List, length, take, Decides, sym, subst, arith}
-use Rattle.std.specs.List.{AllByRecursion as All}
+use Rattle.std.specs.List.{AllByRecursion}
 use Rattle.std.proofs.lemmas.List.{length-take-le}
 use Rattle.std.proofs.lemmas.Bool.Decides.{Decides-and, Decides-like}
 use Rattle.project.specs.declared.tables.Activity.{Activity}
@@ -36,7 +36,7 @@ decides_sound h acts ps =
         durations = activities.0;
         demands = activities.1;
         pairs = omega arith;
-        proper = subst (λ n. All (Proper n) (take h.pairs ps)) (sym many) pairs.0;
+        proper = subst (λ n. AllByRecursion (Proper n) (take h.pairs ps)) (sym many) pairs.0;
         once = pairs.1;
         or_few = pairs.2;
       };
@@ -50,7 +50,7 @@ decides_sound h acts ps =
         (rules.capacities, rules.unused),
         (
           (rules.durations, rules.demands),
-          (subst (λ n. All (Proper n) (take h.pairs ps)) many rules.proper, rules.once, rules.or_few),
+          (subst (λ n. AllByRecursion (Proper n) (take h.pairs ps)) many rules.proper, rules.once, rules.or_few),
         ),
       ),
     ))

@@ -1,6 +1,6 @@
 -- What the tests of the capacities, the demands and the durations say. Assumes nothing.
 use Rattle.std.proofs.Common.{◌≡◌, ℕ, zero, suc, ◌-◌, ◌<◌, ◌≤◌, true, cond, ltb, leb, List, [], ◌∷◌, get_or, Decides, refl, ⊎_elim, arith}
-use Rattle.std.specs.List.{AllByRecursion as All}
+use Rattle.std.specs.List.{AllByRecursion}
 use Rattle.std.proofs.ByRecursion.{All-weaker, Decides-by_and}
 use Rattle.std.proofs.lemmas.Bool.{and_parts, and_from, leb-true, le-leb, cases_lt}
 use Rattle.std.proofs.lemmas.Bool.Decides.{nat_tests, Decides-and, Decides-like}
@@ -25,14 +25,14 @@ within_from_each (x ∷ xs) (y ∷ ys) h = and_from _ _ (le-leb x y (h zero)) (w
 pub decides_within : (xs ys : List ℕ) → Decides (within xs ys) ((k : ℕ) → get_or xs k 0 ≤ get_or ys k 0)
 decides_within xs ys = (each_from_within xs ys, within_from_each xs ys)
 
-all_both : {X : Type 0} (P Q : X → Type 0) (xs : List X) → All P xs → All Q xs → All (λ x. P x × Q x) xs
+all_both : {X : Type 0} (P Q : X → Type 0) (xs : List X) → AllByRecursion P xs → AllByRecursion Q xs → AllByRecursion (λ x. P x × Q x) xs
 all_both P Q [] p q = tt
 all_both P Q (x ∷ xs) p q = ((p.0, q.0), all_both P Q xs p.1 q.1)
 
 pub decides_activity : (capacities : List ℕ) (a : Activity) → Decides (activity_fits capacities a) ((a.duration ≤ most_duration) × ((k : ℕ) → demand a k ≤ get_or capacities k 0))
 decides_activity capacities a = Decides-and _ _ (decides_leb a.duration most_duration) (decides_within a.demands capacities)
 
-pub decides_activities : (capacities : List ℕ) (acts : List Activity) → Decides (activities_fit capacities acts) (All (λ a. a.duration ≤ most_duration) acts × All (λ a. (k : ℕ) → demand a k ≤ get_or capacities k 0) acts)
+pub decides_activities : (capacities : List ℕ) (acts : List Activity) → Decides (activities_fit capacities acts) (AllByRecursion (λ a. a.duration ≤ most_duration) acts × AllByRecursion (λ a. (k : ℕ) → demand a k ≤ get_or capacities k 0) acts)
 decides_activities capacities acts =
     let Short : Activity → Type 0 = λ a. a.duration ≤ most_duration in
     let Light : Activity → Type 0 = λ a. (k : ℕ) → demand a k ≤ get_or capacities k 0 in

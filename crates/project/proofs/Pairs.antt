@@ -1,6 +1,6 @@
 -- What the tests of the pairs say. Assumes nothing.
 use Rattle.std.proofs.Common.{◌≡◌, ℕ, ◌+◌, ◌<◌, Bool, true, cond, not, ◌&&◌, ◌||◌, eqb, ltb, leb, List, [], ◌∷◌, ◌++◌, length, get_or, Decides, sym, refl, ap, ◌∙◌, subst, ⊎_elim, arith}
-use Rattle.std.specs.List.{ContainsAt as Has, AllByRecursion as All}
+use Rattle.std.specs.List.{ContainsAt as Has, AllByRecursion}
 use Rattle.std.proofs.lemmas.List.{append-nil, append_assoc, length-append, length_push, get_or_append_left, get_or_push, get_or_default}
 use Rattle.std.proofs.lemmas.List.Sums.{sum_by_push, sum_by-append}
 use Rattle.std.proofs.lemmas.Bool.{and_parts, and_from, leb-true, le-leb, ltb-true, lt-ltb, eqb-true, eq-eqb, not-true, not_from_false, or_cases, or_left, or_right, cases_Bool, cases_lt, both_ways}
@@ -97,7 +97,7 @@ decides_follows before q once few =
       λ h. and_from _ _ (new.1 (once_new before q h.0)) (few_room before q h.1),
     )
 
-rules_from_fit : (n : ℕ) (before qs : List Pair) → Once before → Few before → pairs_fit n before qs ≡ true → All (Proper n) qs × Once (before ++ qs) × Few (before ++ qs)
+rules_from_fit : (n : ℕ) (before qs : List Pair) → Once before → Few before → pairs_fit n before qs ≡ true → AllByRecursion (Proper n) qs × Once (before ++ qs) × Few (before ++ qs)
 rules_from_fit n before [] once few e =
     (tt, subst Once (sym (append-nil before)) once, subst Few (sym (append-nil before)) few)
 rules_from_fit n before (q ∷ qs) once few e =
@@ -108,7 +108,7 @@ rules_from_fit n before (q ∷ qs) once few e =
     let same = append_assoc before (q ∷ []) qs in
     (((decides_proper n q).0 k.0, rest.0), subst Once same rest.1, subst Few same rest.2)
 
-fit_from_rules : (n : ℕ) (before qs : List Pair) → All (Proper n) qs → Once (before ++ qs) → Few (before ++ qs) → pairs_fit n before qs ≡ true
+fit_from_rules : (n : ℕ) (before qs : List Pair) → AllByRecursion (Proper n) qs → Once (before ++ qs) → Few (before ++ qs) → pairs_fit n before qs ≡ true
 fit_from_rules n before [] each once few = refl
 fit_from_rules n before (q ∷ qs) each once few =
     let same = sym (append_assoc before (q ∷ []) qs) in
@@ -121,9 +121,9 @@ fit_from_rules n before (q ∷ qs) each once few =
     (fit_from_rules n (before ++ q ∷ []) qs each.1 once' few')
 
 -- the pairs after those `before`, which keep both rules
-pub decides_pairs_after : (n : ℕ) (before qs : List Pair) → Once before → Few before → Decides (pairs_fit n before qs) (All (Proper n) qs × Once (before ++ qs) × Few (before ++ qs))
+pub decides_pairs_after : (n : ℕ) (before qs : List Pair) → Once before → Few before → Decides (pairs_fit n before qs) (AllByRecursion (Proper n) qs × Once (before ++ qs) × Few (before ++ qs))
 decides_pairs_after n before qs once few =
     (rules_from_fit n before qs once few, λ h. fit_from_rules n before qs h.0 h.1 h.2)
 
-pub decides_pairs : (n : ℕ) (ps : List Pair) → Decides (pairs_fit n [] ps) (All (Proper n) ps × Once ps × Few ps)
+pub decides_pairs : (n : ℕ) (ps : List Pair) → Decides (pairs_fit n [] ps) (AllByRecursion (Proper n) ps × Once ps × Few ps)
 decides_pairs n ps = decides_pairs_after n [] ps (λ i j d lt in' e. omega arith) (λ j. omega arith)

@@ -1,6 +1,6 @@
 -- What one turn of each loop of the rules tells. Assumes nothing.
 use Rattle.std.proofs.Common.{◌≡◌, ℕ, ◌+◌, ◌-◌, ◌<◌, Bool, true, false, cond, ◌&&◌, ◌||◌, ltb, leb, List, [], length, get_or, take, drop, sym, refl, ap, ◌∙◌, subst, arith}
-use Rattle.std.specs.List.{AllByRecursion as All}
+use Rattle.std.specs.List.{AllByRecursion}
 use Rattle.std.proofs.lemmas.List.{take_more, drop_more}
 use Rattle.std.proofs.lemmas.List.Sums.{count_by_more_yes, count_by_more_no}
 use Rattle.std.proofs.lemmas.Bool.{and_from, and_left, and_right, or_left}
@@ -76,10 +76,10 @@ module _ (n : ℕ) (ps : List Pair) (q : ℕ) (lt : q < length ps) (so : pairs_f
         goes_on _ _ _ pairs_next (and_from _ _ (sym p) (ap (λ k. follows (take k ps) (get_or ps q blank)) (sym same) ∙ sym e))
 
 module _ (h : Head) (acts : List Activity) (ps : List Pair) where
-  pub shaped : (a : ℕ) → a ≡ h.activities → length h.capacities ≡ most_resources → All (λ b. length b.demands ≡ most_resources) (take a acts) → Shaped (project_of h acts ps)
+  pub shaped : (a : ℕ) → a ≡ h.activities → length h.capacities ≡ most_resources → AllByRecursion (λ b. length b.demands ≡ most_resources) (take a acts) → Shaped (project_of h acts ps)
   shaped a same capacities demands = record {
     capacities = capacities;
-    demands = subst (λ n. All (λ b. length b.demands ≡ most_resources) (take n acts)) same demands;
+    demands = subst (λ n. AllByRecursion (λ b. length b.demands ≡ most_resources) (take n acts)) same demands;
   }
 
   pub no_head : false ≡ head_fits h acts ps → false ≡ sound h acts ps

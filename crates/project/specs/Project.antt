@@ -1,6 +1,6 @@
 -- A project, as a head and two lent tables give it, and the rules that it keeps. Assumes nothing.
 use Rattle.std.specs.Prelude.{◌≡◌, ℕ, ◌-◌, ◌<◌, ◌≤◌, Bool, true, false, cond, not, ◌&&◌, ◌||◌, List, [], ◌∷◌, ◌++◌, length, take, drop, replicate, count_by, ◌==◌, ◌≢◌, nat_le, nat_lt, slice_index, slice_index_or}
-use Rattle.std.specs.List.{AllByRecursion as All}
+use Rattle.std.specs.List.{AllByRecursion}
 use Rattle.project.specs.declared.tables.Activity.{Activity}
 use Rattle.project.specs.declared.tables.Head.{Head}
 use Rattle.project.specs.declared.tables.Kind.{Kind}
@@ -61,7 +61,7 @@ demand a k = slice_index a.demands k
 -- the arrays of a project's records are as long as their type says
 pub record Shaped (p : Project) : Type 0 where
   pub capacities : length p.capacities ≡ most_resources
-  pub demands : All (λ a. length a.demands ≡ most_resources) p.activities
+  pub demands : AllByRecursion (λ a. length a.demands ≡ most_resources) p.activities
 
 abbrev pub is_blank : Kind → Bool
 is_blank Blank = true
@@ -105,11 +105,11 @@ pub record Rules (p : Project) : Type 0 where
   pub resources : p.resources ≤ most_resources
   pub capacities : (k : ℕ) → k < p.resources → capacity p k ≤ most_capacity
   pub unused : (k : ℕ) → p.resources ≤ k → capacity p k ≡ 0
-  pub durations : All (λ a. a.duration ≤ most_duration) p.activities
+  pub durations : AllByRecursion (λ a. a.duration ≤ most_duration) p.activities
   -- past the last resource the capacity is 0, and so is each demand
-  pub demands : All (λ a. (k : ℕ) → demand a k ≤ capacity p k) p.activities
+  pub demands : AllByRecursion (λ a. (k : ℕ) → demand a k ≤ capacity p k) p.activities
   pub pairs : length p.pairs ≤ most_pairs
-  pub proper : All (Proper (length p.activities)) p.pairs
+  pub proper : AllByRecursion (Proper (length p.activities)) p.pairs
   pub once : Once p.pairs
   pub or_few : Few p.pairs
 

@@ -1,6 +1,6 @@
 // The rules of a project, tested on a head and two lent tables with any contents.
 ghost use Rattle.std.specs.Prelude.{◌≡◌, T, [], ◌∷◌, ◌++◌, length, Decides};
-ghost use Rattle.std.specs.List.{AllByRecursion as All};
+ghost use Rattle.std.specs.List.{AllByRecursion};
 ghost use Rattle.project.specs.Project.{Once, Few, most_resources, project_of, Shaped, Sound, sound, head_fits, capacities_fit, activities_fit, activity_fits, within, among, proper, follows, pairs_fit, or_predecessors};
 
 use crate::tables::{
@@ -66,7 +66,7 @@ fn activity_fits(activity: &Activity, capacities: &[u8; MOST_RESOURCES]) -> bool
 
 fn activities_fit(capacities: &[u8; MOST_RESOURCES], activities: &[Activity]) -> bool
     ensures value { result ≡ activities_fit capacities.now activities.now }
-    ensures shaped { T result → All (λ a. length a.demands ≡ most_resources) activities.now }
+    ensures shaped { T result → AllByRecursion (λ a. length a.demands ≡ most_resources) activities.now }
 {
     for activity in activities {
         if !activity_fits(activity, capacities) {

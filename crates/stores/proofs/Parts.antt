@@ -1,13 +1,13 @@
 -- The parts of a list that is put together of them. Assumes nothing.
 use Rattle.std.proofs.Common.{◌≡◌, Bool, true, false, List, [], ◌∷◌, ◌++◌, sym, ap, ◌∙◌, append_assoc, append-nil}
-use Rattle.std.specs.List.{AllByRecursion as All}
+use Rattle.std.specs.List.{AllByRecursion}
 use Rattle.std.proofs.lemmas.Bool.{cond-true, cond-false}
 use Rattle.stores.specs.Scripts.{parts}
 
 module _ {A : Type 0} (is_end : A → Bool) where
   -- no end stands among these
   abbrev pub Inside : List A → Type 0
-  Inside = All (λ x. is_end x ≡ false)
+  Inside = AllByRecursion (λ x. is_end x ≡ false)
 
   pub parts_front : (part w rest : List A) → Inside w → parts is_end part (w ++ rest) ≡ parts is_end (part ++ w) rest
   parts_front part [] rest h = ap (λ p. parts is_end p rest) (sym (append-nil part))

@@ -1,6 +1,6 @@
 -- Clauses in text are read as they were spelled. Assumes nothing.
 use Rattle.std.proofs.Common.{◌≡◌, ℕ, zero, suc, ◌-◌, ◌^◌, ◌<◌, ◌≤◌, true, false, eqb, leb, List, [], ◌∷◌, ◌++◌, map, get_or, drop, replicate, ℤ, pos, negsuc, neg_ℤ, vec_items, decimal, sym, refl, ap, ◌∙◌, append_assoc, arith}
-use Rattle.std.specs.List.{flat_map, AllByRecursion as All}
+use Rattle.std.specs.List.{flat_map, AllByRecursion}
 use Rattle.std.specs.Str.Parse.{AllDigits, digits_value, starts_with_minus, signed_digits_value}
 use Rattle.std.specs.Fmt.{signed_decimal}
 use Rattle.std.proofs.lemmas.Fmt.{decimal_is_IsNumeral}
@@ -22,7 +22,7 @@ literal_small l h = leb-true _ _ (and_parts (leb 1 (variable l)) _ h).1
 
 -- a minus and the digits stand after the space and LF
 abbrev High : List ℕ → Type 0
-High = All (λ b. 45 ≤ b)
+High = AllByRecursion (λ b. 45 ≤ b)
 
 digits_high : (ds : List ℕ) → AllDigits 10 ds → High ds
 digits_high [] d = tt
@@ -47,7 +47,7 @@ signed_reads (negsuc n) le = ap (λ m. neg_ℤ (pos m)) (decimal_is_IsNumeral (s
 clear : (e : ℕ) → e < 45 → (l : ℤ) → literal l ≡ true → Inside (eqb e) (signed_decimal l)
 clear e low l h = All-weaker (λ b. 45 ≤ b) (λ b. eqb e b ≡ false) (λ b le. ne_eqb e b (λ z. omega arith)) (signed_decimal l) (signed_high l (literal_small l h))
 
--- All of a line's literals.
+-- AllByRecursion of a line's literals.
 
 words : (w : List ℕ) (c : List ℤ) → literals c ≡ true → parts (eqb space) w (flat_map spaced c ++ space ∷ zero_digit ∷ []) ≡ w ∷ map signed_decimal c
 words w [] h = refl

@@ -1,5 +1,5 @@
 use Rattle.std.proofs.Common.{◌≡◌, length, sym, ◌∙◌, subst}
-use Rattle.std.specs.List.{AllByRecursion as All}
+use Rattle.std.specs.List.{AllByRecursion}
 use Rattle.std.proofs.ByRecursion.{All-more}
 use Rattle.std.proofs.lemmas.List.{at_drop_all, take_all}
 use Rattle.project.specs.Project.{most_resources, activities_fit}
@@ -21,5 +21,5 @@ loop-activity-preserved c = (
 pub returns : goal.returns
 returns c = record {
   value = sym (c.loop-activity.invariant.0 ∙ at_drop_all (activities_fit c.args.capacities.now) c.args.activities.now c.loop-activity.activity-index c.loop-activity-test.false);
-  shaped = λ _. subst (All (λ a. length a.demands ≡ most_resources)) (take_all c.loop-activity.activity-index c.args.activities.now c.loop-activity-test.false) c.loop-activity.invariant.1;
+  shaped = λ _. subst (AllByRecursion (λ a. length a.demands ≡ most_resources)) (take_all c.loop-activity.activity-index c.args.activities.now c.loop-activity-test.false) c.loop-activity.invariant.1;
 }

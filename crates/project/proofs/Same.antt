@@ -1,8 +1,6 @@
 -- The tests of one pair: which pairs are the same, and which are OR pairs into an activity. Assumes nothing.
-use denote.Enum.Bare.{sameb}
-use Rattle.std.proofs.Common.{◌≡◌, ℕ, true, false, ◌&&◌, eqb, Decides, refl, ap, subst, ⊎_elim}
+use Rattle.std.proofs.Common.{◌≡◌, ℕ, true, false, eqb, Decides, refl, ap, subst, ⊎_elim}
 use Rattle.std.proofs.lemmas.Bool.{false≢true, and_parts, and_from, and_left, and_right, eqb-true, eq-eqb, ne_eqb, cases_Bool}
-use Rattle.project.specs.contracts.tables.Kind.{the_type}
 use Rattle.project.specs.declared.tables.Kind.{Kind}
 use Rattle.project.specs.declared.tables.Kind.TheVariants.{Blank, And, Or, Bi}
 use Rattle.project.specs.declared.tables.Pair.{Pair}
@@ -32,34 +30,6 @@ same_kind_same Bi And e = absurd (false≢true e)
 same_kind_same Bi Or e = absurd (false≢true e)
 same_kind_same Bi Bi e = refl
 
--- the `==` of the code is the test of the definitions
-kind_eq : (k l : Kind) → sameb the_type k l ≡ same_kind k l
-kind_eq Blank Blank = refl
-kind_eq Blank And = refl
-kind_eq Blank Or = refl
-kind_eq Blank Bi = refl
-kind_eq And Blank = refl
-kind_eq And And = refl
-kind_eq And Or = refl
-kind_eq And Bi = refl
-kind_eq Or Blank = refl
-kind_eq Or And = refl
-kind_eq Or Or = refl
-kind_eq Or Bi = refl
-kind_eq Bi Blank = refl
-kind_eq Bi And = refl
-kind_eq Bi Or = refl
-kind_eq Bi Bi = refl
-
-pub pair_eq : (q r : Pair) → (sameb the_type q.kind r.kind && (eqb q.first r.first && eqb q.second r.second)) ≡ same_pair q r
-pair_eq q r = ap (λ t. t && (eqb q.first r.first && eqb q.second r.second)) (kind_eq q.kind r.kind)
-
-pub or_eq : (k : Kind) → sameb the_type k Or ≡ is_or k
-or_eq Blank = refl
-or_eq And = refl
-or_eq Or = refl
-or_eq Bi = refl
-
 -- two pairs are the same where their three fields are
 pub fields_same : (q r : Pair) → same_pair q r ≡ true → (q.kind ≡ r.kind) × (q.first ≡ r.first) × (q.second ≡ r.second)
 fields_same q r e =
@@ -80,11 +50,17 @@ decides_same q r = (
   λ e. same_fields q r (ap (λ p. p.kind) e) (ap (λ p. p.first) e) (ap (λ p. p.second) e),
 )
 
-pub into_yes : (j : ℕ) (q : Pair) → is_or q.kind ≡ true → q.second ≡ j → or_into j q ≡ true
-into_yes j q k s = and_from _ _ k (eq-eqb q.second j s)
+not_or : (k : Kind) → (k ≡ Or → ⊥) → is_or k ≡ false
+not_or Blank n = refl
+not_or And n = refl
+not_or Or n = absurd (n refl)
+not_or Bi n = refl
+
+pub into_yes : (j : ℕ) (q : Pair) → q.kind ≡ Or → q.second ≡ j → or_into j q ≡ true
+into_yes j q k s = and_from _ _ (ap is_or k) (eq-eqb q.second j s)
 
 pub into_other : (j : ℕ) (q : Pair) → (q.second ≡ j → ⊥) → or_into j q ≡ false
 into_other j q n = and_right (is_or q.kind) _ (ne_eqb q.second j n)
 
-pub into_no : (j : ℕ) (q : Pair) → is_or q.kind ≡ false → or_into j q ≡ false
-into_no j q n = and_left _ (eqb q.second j) n
+pub into_no : (j : ℕ) (q : Pair) → (q.kind ≡ Or → ⊥) → or_into j q ≡ false
+into_no j q n = and_left _ (eqb q.second j) (not_or q.kind n)

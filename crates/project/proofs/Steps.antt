@@ -7,10 +7,10 @@ use Rattle.std.proofs.lemmas.Bool.{and_from, and_left, and_right, or_left}
 use Rattle.std.proofs.lemmas.Bool.Decides.{nat_tests}
 use Rattle.project.specs.declared.tables.Activity.{Activity}
 use Rattle.project.specs.declared.tables.Head.{Head}
-use Rattle.project.specs.declared.tables.Kind.TheVariants.{Blank}
+use Rattle.project.specs.declared.tables.Kind.TheVariants.{Blank, Or}
 use Rattle.project.specs.declared.tables.Pair.{Pair}
-use Rattle.project.specs.Project.{most_resources, most_capacity, project_of, Shaped, capacities_fit, within, activity_fits, activities_fit, is_or, or_into, or_predecessors, same_pair, among, proper, follows, pairs_fit, head_fits, sound}
-use Rattle.project.proofs.Same.{into_yes, into_other, into_no}
+use Rattle.project.specs.Project.{most_resources, most_capacity, project_of, Shaped, capacities_fit, within, activity_fits, activities_fit, or_into, or_predecessors, same_pair, among, proper, follows, pairs_fit, head_fits, sound}
+use Rattle.project.proofs.Same.{same_fields, unlike_fields, into_yes, into_other, into_no}
 
 -- r is the test of a list, x that of the next element and y that of the elements after it
 pub stops : (r x y : Bool) → r ≡ (x && y) → x ≡ false → false ≡ r
@@ -41,20 +41,21 @@ module _ (r : Pair) (ps : List Pair) (i : ℕ) (lt : i < length ps) (so : among 
   among_next : among r ps ≡ (same_pair (get_or ps i blank) r || among r (drop (i + 1) ps))
   among_next = so ∙ ap (among r) (drop_more ps i blank lt)
 
-  pub among_found : same_pair (get_or ps i blank) r ≡ true → true ≡ among r ps
-  among_found e = sym (among_next ∙ or_left _ (among r (drop (i + 1) ps)) e)
+  pub among_found : (get_or ps i blank).kind ≡ r.kind → (get_or ps i blank).first ≡ r.first → (get_or ps i blank).second ≡ r.second → true ≡ among r ps
+  among_found k f s =
+      sym (among_next ∙ or_left _ (among r (drop (i + 1) ps)) (same_fields (get_or ps i blank) r k f s))
 
-  pub among_on : same_pair (get_or ps i blank) r ≡ false → among r ps ≡ among r (drop (i + 1) ps)
-  among_on e = among_next ∙ ap (λ t. t || among r (drop (i + 1) ps)) e
+  pub among_on : (((get_or ps i blank).kind ≡ r.kind) × ((get_or ps i blank).first ≡ r.first) × ((get_or ps i blank).second ≡ r.second) → ⊥) → among r ps ≡ among r (drop (i + 1) ps)
+  among_on n = among_next ∙ ap (λ t. t || among r (drop (i + 1) ps)) (unlike_fields (get_or ps i blank) r n)
 
 module _ (j : ℕ) (ps : List Pair) (i : ℕ) (lt : i < length ps) where
-  pub count_yes : is_or (get_or ps i blank).kind ≡ true → (get_or ps i blank).second ≡ j → or_predecessors j (take (i + 1) ps) ≡ or_predecessors j (take i ps) + 1
+  pub count_yes : (get_or ps i blank).kind ≡ Or → (get_or ps i blank).second ≡ j → or_predecessors j (take (i + 1) ps) ≡ or_predecessors j (take i ps) + 1
   count_yes k s = count_by_more_yes (or_into j) ps i blank lt (into_yes j (get_or ps i blank) k s)
 
   pub count_other : ((get_or ps i blank).second ≡ j → ⊥) → or_predecessors j (take (i + 1) ps) ≡ or_predecessors j (take i ps)
   count_other n = count_by_more_no (or_into j) ps i blank lt (into_other j (get_or ps i blank) n)
 
-  pub count_no : is_or (get_or ps i blank).kind ≡ false → or_predecessors j (take (i + 1) ps) ≡ or_predecessors j (take i ps)
+  pub count_no : ((get_or ps i blank).kind ≡ Or → ⊥) → or_predecessors j (take (i + 1) ps) ≡ or_predecessors j (take i ps)
   count_no n = count_by_more_no (or_into j) ps i blank lt (into_no j (get_or ps i blank) n)
 
 module _ (n : ℕ) (ps : List Pair) (q : ℕ) (lt : q < length ps) (so : pairs_fit n [] ps ≡ pairs_fit n (take q ps) (drop q ps)) where

@@ -4,6 +4,7 @@
 
 use anyhow::anyhow;
 use std::io::{Read, Write};
+use std::process::ExitCode;
 use std::{env, fs, io};
 
 // One byte more than any book has: what lies past it is not read.
@@ -30,25 +31,25 @@ fn read_input(rt: &HostRuntime) -> anyhow::Result<Vec<u8>> {
     }
 }
 
-fn main(rt: HostRuntime) -> anyhow::Result<()> {
+fn main(rt: HostRuntime) -> anyhow::Result<ExitCode> {
     let text = match read_input(&rt) {
         Ok(text) => text,
         Err(error) => {
             eprintln!(rt; "tulykesz: cannot read the book: {error}")?;
-            return Err(error);
+            return Ok(ExitCode::FAILURE);
         }
     };
     match planner::respond(rt.alloc(), &text) {
         Ok(answer) => {
-            let written = rt.stdout().write_all(&answer);
-            if let Err(error) = &written {
+            if let Err(error) = rt.stdout().write_all(&answer) {
                 eprintln!(rt; "tulykesz: cannot print the answer: {error}")?;
+                return Ok(ExitCode::FAILURE);
             }
-            Ok(written?)
+            Ok(ExitCode::SUCCESS)
         }
         Err(refusal) => {
             println!(rt; "{refusal}")?;
-            Err(anyhow!("refused"))
+            Ok(ExitCode::FAILURE)
         }
     }
 }

@@ -47,7 +47,7 @@ signed_reads (negsuc n) le = ap (λ m. neg_ℤ (pos m)) (decimal_is_IsNumeral (s
 clear : (e : ℕ) → e < 45 → (l : ℤ) → literal l ≡ true → Inside (eqb e) (signed_decimal l)
 clear e low l h = All-weaker (λ b. 45 ≤ b) (λ b. eqb e b ≡ false) (λ b le. ne_eqb e b (λ z. omega arith)) (signed_decimal l) (signed_high l (literal_small l h))
 
--- AllByRecursion of a line's literals.
+-- All of a line's literals.
 
 words : (w : List ℕ) (c : List ℤ) → literals c ≡ true → parts (eqb space) w (flat_map spaced c ++ space ∷ zero_digit ∷ []) ≡ w ∷ map signed_decimal c
 words w [] h = refl

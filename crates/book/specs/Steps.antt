@@ -36,12 +36,8 @@ abbrev pub KeptSofar : Option Head → List Activity → List Pair → Type 0
 KeptSofar None acts ps = Unit {0}
 KeptSofar (Some h) acts ps = Kept h acts ps
 
--- the numbers of a line
-abbrev pub numbers_of : Numbers → List ℕ
-numbers_of v = take v.count v.values
-
 abbrev pub content_in : Line → Content
-content_in l = record { kind = l.kind; numbers = numbers_of l.numbers }
+content_in l = record { kind = l.kind; numbers = l.numbers.items }
 
 -- the records that the array of a line's numbers gives
 abbrev pub activity_in : List ℕ → Activity

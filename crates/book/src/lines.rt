@@ -6,6 +6,7 @@ ghost use Rattle.book.specs.Parsed.{NumbersRead, LineRead, in_range, most_number
 ghost use Rattle.project.specs.Project.{most_resources};
 
 use crate::words::{Word, Words};
+use arrayvec::ArrayVec;
 use project::refusal::Refusal;
 use project::tables::{Kind, MOST_RESOURCES};
 
@@ -20,14 +21,10 @@ pub(crate) enum LineKind {
     Trailer,
 }
 
-// The numbers of a line: the first `count` of the values. The line reader leaves zeros after them.
-#[derive(Clone, Copy)]
-pub(crate) struct Numbers {
-    pub count: usize,
-    pub values: [u32; MOST_NUMBERS],
-}
+// The numbers of a line, in their order.
+pub(crate) type Numbers = ArrayVec<u32, MOST_NUMBERS>;
 
-#[derive(Clone, Copy)]
+#[derive(Drop)]
 pub(crate) struct Line {
     pub kind: LineKind,
     pub numbers: Numbers,
@@ -79,28 +76,25 @@ fn read_numbers(
     requires bound { most ≤ most_numbers }
     ensures { NumbersRead (in_range fewest most (numerals (left words.entry))) place result }
 {
-    let mut values = [0; MOST_NUMBERS];
+    let mut numbers = Numbers::new();
     for i in 0..most {
         let Some(word) = words.next() else {
             // The words run out.
             if i < fewest {
                 return Err(Refusal::BadForm(place));
             }
-            return Ok(Numbers { count: i, values });
+            return Ok(numbers);
         };
-        let Some(value) = word.number() else {
+        let Some(number) = word.number() else {
             return Err(Refusal::BadForm(place));
         };
-        values[i] = value;
+        numbers.push(number);
     }
     let None = words.next() else {
         // The words run over.
         return Err(Refusal::BadForm(place));
     };
-    Ok(Numbers {
-        count: most,
-        values,
-    })
+    Ok(numbers)
 }
 
 // What a line says, by its letter and the words after it, where the project has so many resources.

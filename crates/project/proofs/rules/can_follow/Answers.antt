@@ -14,7 +14,7 @@ returns-else-ne c =
     let is : ltb c.or_predecessors.result most_or_predecessors ≡ follows c.args.before.now c.args.pair.now = search rules in
     record { value = is; decides = λ once few. Decides-at _ _ is (decides_follows c.args.before.now c.args.pair.now once few) }
 
-pub returns-else-not-is_among : goal.returns-else-not-is_among
-returns-else-not-is_among c =
-    let is : not c.is_among.result ≡ follows c.args.before.now c.args.pair.now = search rules in
+pub returns-else-not-contains : goal.returns-else-not-contains
+returns-else-not-contains c =
+    let is : not c.contains.result ≡ follows c.args.before.now c.args.pair.now = search rules in
     record { value = is; decides = λ once few. Decides-at _ _ is (decides_follows c.args.before.now c.args.pair.now once few) }

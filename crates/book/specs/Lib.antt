@@ -1,5 +1,6 @@
 pub mod Accepted
 pub mod Cuts
+pub mod Left
 pub mod Lines
 pub mod Parsed
 pub mod Puts

@@ -9,6 +9,7 @@ pub mod Faulting
 pub mod Frames
 pub mod Looping
 pub mod Numbering
+pub mod Publishing
 pub mod Reaching
 pub mod Refusing
 pub mod Spelling

@@ -2,18 +2,22 @@
 ghost use Rattle.std.specs.Prelude.{◌≡◌, ◌+◌, ◌^◌, ◌<◌, ◌≤◌, ◌↔◌, [], ◌∷◌, ◌++◌, length, take, Err, decimal};
 ghost use Rattle.std.specs.List.{flat_map};
 ghost use Rattle.arrayvec.specs.ArrayVec.{array_vec_len};
-ghost use Rattle.project.specs.Project.{project_of, most_activities, most_pairs};
+ghost use Rattle.project.specs.Project.{Sound, project_of, most_activities, most_pairs};
+ghost use Rattle.project.specs.Refusals.{answer, refused};
+ghost use Rattle.book.specs.Accepted.{WritesBook};
+ghost use Rattle.book.specs.Reading.{ReadsBack};
 ghost use Rattle.book.specs.Lines.{letter, spaced};
 ghost use Rattle.book.specs.Parsed.{most_numbers};
 ghost use Rattle.book.specs.Puts.{Writable, line_text, saying};
-ghost use Rattle.book.specs.Written.{activity_line, capacities_line, pair_line, trailer_line, written};
+ghost use Rattle.book.specs.Written.{activity_line, capacities_line, pair_line, trailer_line, written, writing, bytes_after};
 
 use crate::lines::{Line, LineKind, MOST_NUMBERS, Numbers};
 use crate::words::{LF, SPACE};
 use arrayvec::ArrayVec;
 use itoa::Buffer;
 use numerals::write_bytes;
-use project::tables::{Activity, Head, Kind, Pair};
+use project::refusal::Refusal;
+use project::tables::{Activity, Head, Kind, Pair, Tables};
 
 // The most bytes of a number and the space before it.
 const MOST_SPACED: usize = 11;
@@ -23,41 +27,47 @@ const MOST_LINE_BYTES: usize = 2 + MOST_NUMBERS * MOST_SPACED;
 
 type LineText = ArrayVec<u8, MOST_LINE_BYTES>;
 
-// The letter that tells the kind of a line. No line is of a blank pair.
-fn line_letter(kind: LineKind) -> u8
-    ensures { result ≡ letter kind }
-{
-    match kind {
-        LineKind::Capacities => b'C',
-        LineKind::Job => b'J',
-        LineKind::Pairing(Kind::Blank) => 0,
-        LineKind::Pairing(Kind::And) => b'A',
-        LineKind::Pairing(Kind::Or) => b'O',
-        LineKind::Pairing(Kind::Bi) => b'B',
-        LineKind::Trailer => b'Z',
+impl LineKind {
+    // The letter that tells the kind. It is no `From`: no line is of a blank pair, which has no letter.
+    fn letter(self) -> u8
+        ensures { result ≡ letter self }
+    {
+        match self {
+            LineKind::Capacities => b'C',
+            LineKind::Job => b'J',
+            LineKind::Pairing(Kind::Blank) => 0,
+            LineKind::Pairing(Kind::And) => b'A',
+            LineKind::Pairing(Kind::Or) => b'O',
+            LineKind::Pairing(Kind::Bi) => b'B',
+            LineKind::Trailer => b'Z',
+        }
     }
 }
 
+// Appends a space and the number.
 fn push_number(text: &mut LineText, number: u32)
-    requires { array_vec_len text.old + 11 ≤ 57 }
+    requires { array_vec_len text.old + MOST_SPACED ≤ MOST_LINE_BYTES }
     ensures says { text.new.items ≡ text.old.items ++ spaced number }
-    ensures bound { array_vec_len text.new ≤ array_vec_len text.old + 11 }
+    ensures bound { array_vec_len text.new ≤ array_vec_len text.old + MOST_SPACED }
 {
     text.push(SPACE);
-    // There is room.
-    let _ = text.try_extend_from_slice(Buffer::new().format(number).as_bytes());
+    text.try_extend_from_slice(Buffer::new().format(number).as_bytes())
+        .unwrap();
 }
 
-fn line_text(line: &Line) -> LineText
-    ensures { result.items ≡ line_text line.now }
-{
-    let mut text = LineText::new();
-    text.push(line_letter(line.kind));
-    for number in line.numbers.as_slice() {
-        push_number(&mut text, *number);
+impl Line {
+    // The bytes of the line. They are made before they are written, so that counting them and writing them is one thing.
+    fn text(&self) -> LineText
+        ensures { result.items ≡ line_text self.now }
+    {
+        let mut text = LineText::new();
+        text.push(self.kind.letter());
+        for number in self.numbers.as_slice() {
+            push_number(&mut text, *number);
+        }
+        text.push(LF);
+        text
     }
-    text.push(LF);
-    text
 }
 
 // Appends the first `count` of the bytes, or all where there are fewer.
@@ -106,19 +116,21 @@ fn pair_line(pair: &Pair) -> Line
 }
 
 // The last line of a text with so many lines before it. They start at 0, since no cover stands before them.
-fn trailer_line(lines: u32) -> Line
+fn trailer_line(lines: usize) -> Line
+    requires { lines < 2 ^ 32 }
     ensures { result ≡ saying (trailer_line 0 lines) }
 {
     let mut numbers = Numbers::new();
     numbers.push(0);
-    numbers.push(lines);
+    // A `usize` has no `From` into `u32`. The cast loses nothing.
+    numbers.push(lines as u32);
     Line {
         kind: LineKind::Trailer,
         numbers,
     }
 }
 
-// The lines of a text that are still to come.
+// The lines of a text that are still to come. It is no chain of iterators, since the type of one that holds closures cannot be named.
 #[derive(Drop)]
 struct Lines<'t> {
     capacities: Option<Line>,
@@ -157,10 +169,8 @@ impl Iterator for Lines<'_> {
 // The text of tables that keep the rules.
 #[derive(Clone, Copy)]
 struct Text<'t> {
-    head: Head,
-    activities: &'t [Activity],
-    pairs: &'t [Pair],
-    ghost kept: { Writable head activities.now pairs.now },
+    tables: Tables<'t>,
+    ghost kept: { Writable tables.head tables.activities.now tables.pairs.now },
 }
 
 impl<'t> Text<'t> {
@@ -169,39 +179,54 @@ impl<'t> Text<'t> {
     ghost use Rattle.book.specs.Left.{lines_left};
 
     fn lines(self) -> Lines<'t>
-        ensures text { flat_map line_text (lines_left result) ≡ written 0 (project_of self.entry.head self.entry.activities.now self.entry.pairs.now) }
+        ensures text { flat_map line_text (lines_left result) ≡ written 0 (project_of self.entry.tables.head self.entry.tables.activities.now self.entry.tables.pairs.now) }
         ensures bound { length (lines_left result) ≤ most_activities + most_pairs + 2 }
     {
-        let activities = &self.activities[..self.head.activities];
-        let pairs = &self.pairs[..self.head.pairs];
+        let head = self.tables.head;
+        let activities = &self.tables.activities[..head.activities];
+        let pairs = &self.tables.pairs[..head.pairs];
         let before = 1 + activities.len() + pairs.len();
         Lines {
-            capacities: Some(capacities_line(&self.head)),
-            resources: self.head.resources,
+            capacities: Some(capacities_line(&head)),
+            resources: head.resources,
             activities,
             pairs,
-            trailer: Some(trailer_line(before as u32)),
+            trailer: Some(trailer_line(before)),
         }
     }
 
     fn length(self) -> usize
-        ensures { result ≡ length (written 0 (project_of self.entry.head self.entry.activities.now self.entry.pairs.now)) }
+        ensures { result ≡ length (written 0 (project_of self.entry.tables.head self.entry.tables.activities.now self.entry.tables.pairs.now)) }
     {
-        self.lines().map(|line| line_text(&line).len()).sum()
+        self.lines().map(|line| line.text().len()).sum()
     }
 
     fn write(self, out: &mut [u8]) -> usize
-        requires { length (written 0 (project_of self.head self.activities.now self.pairs.now)) ≤ length out.old }
-        ensures { PutAt out.old out.new 0 result (written 0 (project_of self.entry.head self.entry.activities.now self.entry.pairs.now)) }
+        requires { length (written 0 (project_of self.tables.head self.tables.activities.now self.tables.pairs.now)) ≤ length out.old }
+        ensures { PutAt out.old out.new 0 result (written 0 (project_of self.entry.tables.head self.entry.tables.activities.now self.entry.tables.pairs.now)) }
     {
         let mut at = 0;
         for line in self.lines() {
-            at = write_bytes(out, at, line_text(&line).as_slice());
+            at = write_bytes(out, at, line.text().as_slice());
         }
         at
     }
 }
 
-pub fn write(head: &Head, activities: &[Activity], pairs: &[Pair], out: &mut [u8]) -> Result<usize, project::refusal::Refusal> {
-    Ok(0)
+// Writes the text of the project into the front of the lent bytes, and answers its length. A refusal writes nothing.
+pub fn write(tables: Tables<'_>, out: &mut [u8]) -> Result<usize, Refusal>
+    ensures value { answer result ≡ writing tables.entry.head tables.entry.activities.now tables.entry.pairs.now out.old }
+    ensures after { out.new ≡ bytes_after (writing tables.entry.head tables.entry.activities.now tables.entry.pairs.now out.old) (written 0 (project_of tables.entry.head tables.entry.activities.now tables.entry.pairs.now)) out.old }
+    ensures rules { (answer result ≡ Err (refused 8 0)) ↔ (Sound tables.entry.head tables.entry.activities.now tables.entry.pairs.now → ⊥) }
+    ensures book { WritesBook (project_of tables.entry.head tables.entry.activities.now tables.entry.pairs.now) result out.new }
+    ensures read { ReadsBack (project_of tables.entry.head tables.entry.activities.now tables.entry.pairs.now) result out.new }
+{
+    if !tables.keeps_rules() {
+        return Err(Refusal::RulesBroken);
+    }
+    let text = Text { tables };
+    if text.length() > out.len() {
+        return Err(Refusal::ShortBuffer);
+    }
+    Ok(text.write(out))
 }

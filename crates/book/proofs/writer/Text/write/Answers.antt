@@ -11,4 +11,4 @@ loop-line-init c =
 
 pub loop-line-preserved : goal.loop-line-preserved
 loop-line-preserved c =
-    more c.requires c.loop-line.invariant (ap (flat_map line_text) c.in-Some.ensures.steps ∙ ap (λ s. s ++ flat_map line_text (lines_left c.next.new.self)) (sym (c.as_slice.ensures.value ∙ c.line_text.ensures))) c.write_bytes-at.ensures
+    more c.requires c.loop-line.invariant (ap (flat_map line_text) c.in-Some.ensures.steps ∙ ap (λ s. s ++ flat_map line_text (lines_left c.next.new.self)) (sym (c.as_slice.ensures.value ∙ c.text.ensures))) c.write_bytes-at.ensures

@@ -8,4 +8,4 @@ use Rattle.book.proofs.writer.Text.write.Given as goal
 
 abbrev pub invariant-loop-line : goal.invariant-loop-line
 invariant-loop-line l =
-    Underway l.initial.out l.out l.at (flat_map line_text (lines_left l.line-iterator)) (written 0 (project_of l.self.head l.self.activities.now l.self.pairs.now))
+    Underway l.initial.out l.out l.at (flat_map line_text (lines_left l.line-iterator)) (written 0 (project_of l.self.tables.head l.self.tables.activities.now l.self.tables.pairs.now))

@@ -23,8 +23,8 @@ module _ (p : Project) (shaped : Shaped p) (rules : Rules p) {out left : List �
       let same : length (written 0 p) ≡ n = sym w.0 ∙ is in
       ap (take n) w.1 ∙ take_at (written 0 p) _ n same
 
-  pub book_written : WritesBook p (Ok end) left
-  book_written n z is a q =
+  pub book_written : {told : ℕ} → told ≡ end → WritesBook p (Ok told) left
+  book_written e n z is a q =
       let same : end ≡ n = cc in
       subst (λ bs. IsBook z bs p) (sym (taken n same)) (written_book z p shaped rules a q)
 

@@ -1,5 +1,5 @@
 -- The lines of a project's text, and the text that they make. Assumes nothing.
-use Rattle.std.proofs.Common.{◌≡◌, ℕ, ◌+◌, List, [], ◌∷◌, ◌++◌, map, length, take, sym, refl, ap, ◌∙◌, append_assoc, append-nil, arith}
+use Rattle.std.proofs.Common.{◌≡◌, ℕ, ◌+◌, List, [], ◌∷◌, ◌++◌, map, length, take, sym, refl, ◌∙◌, append_assoc, append-nil, arith}
 use Rattle.std.specs.List.{flat_map}
 use Rattle.std.proofs.lemmas.Grind.{flat_map-append}
 use Rattle.std.proofs.lemmas.List.Folds.{flat_map-map}
@@ -9,7 +9,7 @@ use Rattle.project.specs.declared.tables.Activity.{Activity}
 use Rattle.project.specs.declared.tables.Head.{Head}
 use Rattle.project.specs.declared.tables.Pair.{Pair}
 use Rattle.book.specs.Lines.{Content, line}
-use Rattle.book.specs.Puts.{saying, line_text}
+use Rattle.book.specs.Saying.{saying, line_text}
 use Rattle.book.specs.Written.{activity_line, capacities_line, pair_line, trailer_line, written}
 use Rattle.book.specs.declared.lines.Line.{Line}
 
@@ -29,6 +29,6 @@ lines_text h acts ps n {x} {z} count first last =
     let xs = map f p.activities in
     let ys = map pair_line p.pairs in
     let m : n ≡ length (capacities_line p ∷ (xs ++ ys)) =
-        omega (arith, count, length-append xs ys, length-map p.activities f, length-map p.pairs pair_line) in
+    omega (arith, count, length-append xs ys, length-map p.activities f, length-map p.pairs pair_line) in
     around line_text x z _ _
     ∙ rw (first, last, m, said f p.activities, said pair_line p.pairs, flat_map-append line xs ys) refl

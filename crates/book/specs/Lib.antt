@@ -1,9 +1,9 @@
 pub mod Accepted
 pub mod Cuts
-pub mod Left
 pub mod Lines
 pub mod Parsed
-pub mod Puts
 pub mod Reading
+pub mod Saying
 pub mod Steps
+pub mod Texts
 pub mod Written

@@ -1,6 +1,5 @@
 // Writing the text of a project into lent bytes. The length is counted first, so that a refusal writes nothing.
-ghost use Rattle.std.specs.Prelude.{◌≡◌, ◌+◌, ◌^◌, ◌<◌, ◌≤◌, ◌↔◌, [], ◌∷◌, ◌++◌, length, take, Err, decimal};
-ghost use Rattle.std.specs.List.{flat_map};
+ghost use Rattle.std.specs.Prelude.{◌≡◌, ◌+◌, ◌^◌, ◌<◌, ◌≤◌, ◌↔◌, [], ◌++◌, length, take};
 ghost use Rattle.arrayvec.specs.ArrayVec.{array_vec_len};
 ghost use Rattle.project.specs.Project.{Sound, project_of, most_activities, most_pairs};
 ghost use Rattle.project.specs.Refusals.{answer, refused};
@@ -8,7 +7,7 @@ ghost use Rattle.book.specs.Accepted.{WritesBook};
 ghost use Rattle.book.specs.Reading.{ReadsBack};
 ghost use Rattle.book.specs.Lines.{letter, spaced};
 ghost use Rattle.book.specs.Parsed.{most_numbers};
-ghost use Rattle.book.specs.Puts.{Writable, line_text, saying};
+ghost use Rattle.book.specs.Saying.{Writable, line_text, saying};
 ghost use Rattle.book.specs.Written.{activity_line, capacities_line, pair_line, trailer_line, written, writing, bytes_after};
 
 use crate::lines::{Line, LineKind, MOST_NUMBERS, Numbers};
@@ -142,7 +141,7 @@ struct Lines<'t> {
 
 impl Iterator for Lines<'_> {
     ghost use Rattle.std.specs.Iterator.{YieldsFirst, item_count};
-    ghost use Rattle.book.specs.Left.{lines_left};
+    ghost use Rattle.book.specs.Texts.{lines_left};
 
     type Item = Line;
 
@@ -176,10 +175,10 @@ struct Text<'t> {
 impl<'t> Text<'t> {
     ghost use Rattle.std.specs.List.{flat_map};
     ghost use Rattle.numerals.specs.Puts.{PutAt};
-    ghost use Rattle.book.specs.Left.{lines_left};
+    ghost use Rattle.book.specs.Texts.{lines_left, text_of};
 
     fn lines(self) -> Lines<'t>
-        ensures text { flat_map line_text (lines_left result) ≡ written 0 (project_of self.entry.tables.head self.entry.tables.activities.now self.entry.tables.pairs.now) }
+        ensures text { flat_map line_text (lines_left result) ≡ text_of self.entry }
         ensures bound { length (lines_left result) ≤ most_activities + most_pairs + 2 }
     {
         let head = self.tables.head;
@@ -196,14 +195,14 @@ impl<'t> Text<'t> {
     }
 
     fn length(self) -> usize
-        ensures { result ≡ length (written 0 (project_of self.entry.tables.head self.entry.tables.activities.now self.entry.tables.pairs.now)) }
+        ensures { result ≡ length (text_of self.entry) }
     {
         self.lines().map(|line| line.text().len()).sum()
     }
 
     fn write(self, out: &mut [u8]) -> usize
-        requires { length (written 0 (project_of self.tables.head self.tables.activities.now self.tables.pairs.now)) ≤ length out.old }
-        ensures { PutAt out.old out.new 0 result (written 0 (project_of self.entry.tables.head self.entry.tables.activities.now self.entry.tables.pairs.now)) }
+        requires { length (text_of self) ≤ length out.old }
+        ensures { PutAt out.old out.new 0 result (text_of self.entry) }
     {
         let mut at = 0;
         for line in self.lines() {

@@ -1,6 +1,5 @@
-use Rattle.std.proofs.Common.{◌≡◌, Ok, refl, ap, ◌∙◌, rules}
+use Rattle.std.proofs.Common.{◌≡◌, Ok, refl, ap, ◌∙◌, arith, rules}
 use Rattle.project.specs.Project.{project_of}
-use Rattle.project.specs.Refusals.{answer}
 use Rattle.book.specs.Written.{written, writing, bytes_after}
 use Rattle.book.proofs.Publishing.{put_all, book_written, reads_back}
 use Rattle.book.proofs.writer.write.Goals as goal
@@ -14,9 +13,9 @@ returns-clause-after c =
 pub returns-clause-book : goal.returns-clause-book
 returns-clause-book c =
     let kept = c.if-not-keeps_rules.ensures in
-    book_written _ (kept.shaped tt) (kept.decides.0 refl).rules c.write.ensures
+    book_written _ (kept.shaped tt) (kept.decides.0 refl).rules c.write.ensures (omega arith)
 
 pub returns-clause-read : goal.returns-clause-read
 returns-clause-read c =
     let kept = c.if-not-keeps_rules.ensures in
-    reads_back _ _ _ (book_written _ (kept.shaped tt) (kept.decides.0 refl).rules c.write.ensures)
+    reads_back _ _ _ (book_written _ (kept.shaped tt) (kept.decides.0 refl).rules c.write.ensures (omega arith))

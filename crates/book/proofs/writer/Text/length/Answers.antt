@@ -4,8 +4,8 @@ use Rattle.std.proofs.lemmas.Iterator.{YieldsList-from_map}
 use Rattle.std.proofs.lemmas.Iterator.Adapters.{fits_from_length, at_most_from_yields_List}
 use Rattle.std.proofs.lemmas.Iterator.Consumers.{YieldsList-from_first, sum_by_from_yields_List}
 use Rattle.std.proofs.lemmas.List.Concat.{length-flat_map}
-use Rattle.book.specs.Left.{lines_left}
-use Rattle.book.specs.Puts.{line_text}
+use Rattle.book.specs.Texts.{lines_left}
+use Rattle.book.specs.Saying.{line_text}
 use Rattle.book.proofs.writer.Text.length.Goals as goal
 
 pub sum-requires-clause-fits : goal.sum-requires-clause-fits

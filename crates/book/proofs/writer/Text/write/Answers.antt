@@ -1,7 +1,7 @@
 use Rattle.std.proofs.Common.{◌++◌, sym, ap, ◌∙◌}
 use Rattle.std.specs.List.{flat_map}
-use Rattle.book.specs.Left.{lines_left}
-use Rattle.book.specs.Puts.{line_text}
+use Rattle.book.specs.Texts.{lines_left}
+use Rattle.book.specs.Saying.{line_text}
 use Rattle.book.proofs.Writing.{begun, more}
 use Rattle.book.proofs.writer.Text.write.Goals as goal
 

@@ -10,8 +10,8 @@ pub record Underway (was out : List ℕ) (at : ℕ) (rest text : List ℕ) : Typ
   pub put : PutAt was out 0 at done
   pub whole : done ++ rest ≡ text
 
-pub begun : {was rest text : List ℕ} → rest ≡ text → Underway was was 0 rest text
-begun e = record { done = []; put = put_none refl refl; whole = e }
+pub begun : {was rest text : List ℕ} {at : ℕ} → at ≡ 0 → rest ≡ text → Underway was was at rest text
+begun e f = record { done = []; put = put_none refl e; whole = f }
 
 pub more : {was out left s rest rest' text : List ℕ} {at end : ℕ} → length text ≤ length was → Underway was out at rest text → rest ≡ s ++ rest' → PutIfRoom out left at end s → Underway was left end rest' text
 more {s = s} {rest' = rest'} room u e p =

@@ -14,7 +14,7 @@ use crate::lines::{Line, LineKind, MOST_NUMBERS, Numbers};
 use crate::words::{LF, SPACE};
 use arrayvec::ArrayVec;
 use itoa::Buffer;
-use numerals::write_bytes;
+use numerals::Page;
 use project::refusal::Refusal;
 use project::tables::{Activity, Head, Kind, Pair, Tables};
 
@@ -204,11 +204,11 @@ impl<'t> Text<'t> {
         requires { length (text_of self) ≤ length out.old }
         ensures { PutAt out.old out.new 0 result (text_of self.entry) }
     {
-        let mut at = 0;
+        let mut page = Page::new(out);
         for line in self.lines() {
-            at = write_bytes(out, at, line.text().as_slice());
+            page.write_bytes(line.text().as_slice());
         }
-        at
+        page.at
     }
 }
 

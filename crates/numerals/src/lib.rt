@@ -15,7 +15,7 @@ pub fn number_length<I: Integer>(number: I) -> usize
 }
 
 // Each of the functions that write does so at a place, and answers the place after what it wrote. Where there is no room, it writes nothing and
-// answers the place that it was given.
+// answers the place that it was given: no Option, which callers who see to the room first would only unwrap.
 pub fn write_bytes(out: &mut [u8], at: usize, bytes: &[u8]) -> usize
     ensures { PutIfRoom out.old out.new at result bytes.now }
 {

@@ -3,5 +3,6 @@
 
 pub mod cells;
 mod line;
-mod memory;
+pub mod spelling;
+pub mod store;
 pub mod text;

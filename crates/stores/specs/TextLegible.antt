@@ -1,5 +1,5 @@
 -- Clauses in text are read as they were spelled. Assumes nothing.
-use Rattle.std.proofs.Common.{◌≡◌, ℕ, zero, suc, ◌-◌, ◌^◌, ◌<◌, ◌≤◌, true, false, eqb, leb, List, [], ◌∷◌, ◌++◌, map, get_or, drop, replicate, ℤ, pos, negsuc, neg_ℤ, vec_items, decimal, sym, refl, ap, ◌∙◌, append_assoc, arith}
+use Rattle.std.proofs.Common.{◌≡◌, ℕ, zero, suc, ◌<◌, ◌≤◌, true, false, eqb, leb, List, [], ◌∷◌, ◌++◌, map, get_or, drop, replicate, ℤ, pos, negsuc, neg_ℤ, decimal, sym, refl, ap, ◌∙◌, append_assoc, arith}
 use Rattle.std.specs.List.{flat_map, AllByRecursion}
 use Rattle.std.specs.Str.Parse.{AllDigits, digits_value, starts_with_minus, signed_digits_value}
 use Rattle.std.specs.Fmt.{signed_decimal}
@@ -7,13 +7,10 @@ use Rattle.std.proofs.lemmas.Fmt.{decimal_is_IsNumeral}
 use Rattle.std.proofs.ByRecursion.{All-append, All-weaker}
 use Rattle.std.proofs.lemmas.Str.Parse.{without_leading_plus_none, digit_at, digit_from_value}
 use Rattle.std.proofs.lemmas.Bool.{and_parts, leb-true, ne_eqb, cond-false}
-use Rattle.sinks.proofs.Literals.{clause_literals}
 use Rattle.sinks.specs.Clauses.{variable, last_variable, literal, literals}
 use Rattle.stores.specs.Scripts.{Legible, parts}
-use Rattle.stores.specs.declared.text.TextSink.{TextSink}
 use Rattle.stores.specs.Texts.{lf, space, hard, zero_digit, spaced, line, clause_in, text_script}
-use Rattle.stores.proofs.Memories.{Sound}
-use Rattle.stores.proofs.Parts.{Inside, parts_front, parts_one, parts_none}
+use Rattle.stores.specs.Parts.{Inside, parts_front, parts_one, parts_none}
 
 -- One literal.
 
@@ -81,10 +78,10 @@ blank : (n : ℕ) → Inside (eqb lf) (replicate n 0)
 blank zero = tt
 blank (suc n) = (refl, blank n)
 
-pub legible : Legible text_script
-legible = record {
+pub text_legible : Legible text_script
+text_legible = record {
   clause = λ c rest h.
-      let ls = clause_literals c h in
+      let ls = (and_parts _ (literals c) h).1 in
       let ends = All-append (λ b. eqb lf b ≡ false) (flat_map spaced c) (space ∷ zero_digit ∷ []) (one_line c ls) (refl, (refl, tt)) in
       let split : line c ++ rest ≡ body c ++ lf ∷ rest = ap (λ t. hard ∷ t) (append_assoc (flat_map spaced c) (space ∷ zero_digit ∷ lf ∷ []) rest ∙ sym (append_assoc (flat_map spaced c) (space ∷ zero_digit ∷ []) (lf ∷ rest))) in
       ap (λ t. map clause_in (parts (eqb lf) [] t)) split
@@ -92,15 +89,3 @@ legible = record {
       ∙ ap (λ d. d ∷ map clause_in (parts (eqb lf) [] rest)) (body_read c ls);
   blanks = λ n. ap (map clause_in) (parts_none (eqb lf) (replicate n 0) (blank n));
 }
-
--- the ghost fields of a text sink in one
-pub sound_of : (s : TextSink) → Sound text_script (vec_items s.bytes) s.ledger
-sound_of s = record { spells = s.spells; clausal = s.clausal; counts = s.counts; begins = s.begins; grew = s.grew }
-
--- no vector is as long as the largest number
-pub room_small : (s : TextSink) → s.ledger.tally.free < 2 ^ 64 - 1
-room_small s =
-    let grew = s.grew in
-    let lens = s.bytes.ok in
-    let small = s.bytes.small in
-    omega arith

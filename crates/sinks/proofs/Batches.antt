@@ -84,9 +84,6 @@ module _ {S B : Type 0} (g : Members S B) where
         order = λ before since h. subst (g.added t before) (sym (append-nil since)) (q before since h);
       }
 
-  pub adds_none : (s : S) → Adds g [] s s
-  adds_none s = adds_nothing s s (unchanged_refl (means g s)) (λ before since h. h)
-
   pub adds_one : (c : List ℤ) (s t : S) → Add c (Ok tt) (means g s) (means g t) → Appended c (g.added s) (g.added t) → Adds g (c ∷ []) s t
   adds_one c s t p q = record {
     meaning = added_one c (means g s) (means g t) (passes (is_open (g.batch s)) _ 23 (sym p.answers)).1 p.does;

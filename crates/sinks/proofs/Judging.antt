@@ -1,5 +1,5 @@
 -- The judge's assignment, literal by literal. Assumes nothing.
-use Rattle.std.proofs.Common.{◌≡◌, ℕ, suc, Bool, true, not, ◌&&◌, ◌||◌, leb, List, [], ◌∷◌, ℤ, pos, negsuc, Ok, sym, refl, ap, ◌∙◌, subst}
+use Rattle.std.proofs.Common.{◌≡◌, ℕ, suc, Bool, true, not, ◌&&◌, ◌||◌, eqb, leb, List, [], ◌∷◌, length, ℤ, pos, negsuc, Ok, sym, refl, ap, ◌∙◌, subst}
 use Rattle.std.proofs.lemmas.Bool.{and_parts, leb-true}
 use Rattle.sinks.specs.Clauses.{Assignment, literal, literals, holds, meets, last_variable}
 use Rattle.sinks.specs.Calls.{Add, Ends}
@@ -8,7 +8,6 @@ use Rattle.sinks.specs.Ledgers.{charged, may_charge, price}
 use Rattle.sinks.specs.declared.ledger.Ledger.{Ledger}
 use Rattle.sinks.proofs.Alike.{same}
 use Rattle.sinks.proofs.Ledgers.{charges, ends_add}
-use Rattle.sinks.proofs.Literals.{clause_literals}
 use Rattle.sinks.specs.Meanings.{Same}
 
 -- a literal names a variable, so its judge and a known assignment agree on it
@@ -36,5 +35,5 @@ adds bs c met l a = (
 -- a clause that was paid is held against the given assignment
 pub judges : (bs : List ℕ) (c : List ℤ) (met met_before met_c : Bool) (l l' : Ledger) → Ends (Ok (tt {0})) (may_charge (price c 0) l) (l' ≡ charged (price c 0) l) (l' ≡ l) → met_c ≡ meets (given bs) c → Add c (Ok (tt {0})) (judged bs met met_before l) (judged bs (met && met_c) met_before l')
 judges bs c met met_before met_c l l' e is =
-    let good = clause_literals c (charges c 0 l e.answers).clause in
+    let good = (and_parts (not (eqb (length c) 0)) (literals c) (charges c 0 l e.answers).clause).1 in
     subst (λ b. Add c (Ok (tt {0})) (judged bs met met_before l) (judged bs (met && b) met_before l')) (sym is) (ends_add (Given bs) no_cost (GivenIf met bs) (GivenIf (met && meets (given bs) c) bs) (GivenIf met_before bs) (GivenIf met_before bs) c (Ok (tt {0})) l l' e (adds bs c met good, same (GivenIf met_before bs)))

@@ -1,5 +1,5 @@
 -- The line of a clause, summed up and written. Assumes nothing.
-use Rattle.std.proofs.Common.{◌≡◌, ℕ, ◌+◌, ◌-◌, ◌^◌, ◌≤◌, min, List, [], ◌∷◌, ◌++◌, length, ℤ, sym, refl, ap, ◌∙◌, append_assoc, append-nil, arith, length-append}
+use Rattle.std.proofs.Common.{◌≡◌, ℕ, ◌+◌, ◌-◌, ◌^◌, ◌≤◌, min, List, [], ◌∷◌, ◌++◌, length, map, ℤ, sym, refl, ap, ◌∙◌, append_assoc, append-nil, arith, length-append}
 use Rattle.std.specs.List.{flat_map, fold}
 use Rattle.std.proofs.lemmas.List.{drop_all}
 use Rattle.std.proofs.lemmas.List.Edits.{paste_all}
@@ -10,18 +10,21 @@ use Rattle.stores.specs.Texts.{lf, space, hard, zero_digit, spaced, line}
 pub line_length : (c : List ℤ) → length (line c) ≡ 4 + length (flat_map spaced c)
 line_length c = omega (arith, length-append (flat_map spaced c) (space ∷ zero_digit ∷ lf ∷ []))
 
--- with each literal the sum grows by its bytes, if it fits
-abbrev pub add_spaced : ℕ → ℤ → ℕ
-add_spaced n l = min (n + length (spaced l)) (2 ^ 64 - 1)
+-- a sum, if it fits
+abbrev pub add : ℕ → ℕ → ℕ
+add n k = min (n + k) (2 ^ 64 - 1)
 
-summed : (n : ℕ) (c : List ℤ) → n ≤ 2 ^ 64 - 1 → fold add_spaced n c ≡ min (n + length (flat_map spaced c)) (2 ^ 64 - 1)
+abbrev pub spaced_length : ℤ → ℕ
+spaced_length l = length (spaced l)
+
+summed : (n : ℕ) (c : List ℤ) → n ≤ 2 ^ 64 - 1 → fold add n (map spaced_length c) ≡ min (n + length (flat_map spaced c)) (2 ^ 64 - 1)
 summed n [] le = omega arith
 summed n (l ∷ ls) le =
-    let rest = summed (add_spaced n l) ls (omega arith) in
+    let rest = summed (add n (spaced_length l)) ls (omega arith) in
     let long = length-append (spaced l) (flat_map spaced ls) in
     omega arith
 
-pub sum_is : (c : List ℤ) → fold add_spaced 4 c ≡ min (length (line c)) (2 ^ 64 - 1)
+pub sum_is : (c : List ℤ) → fold add 4 (map spaced_length c) ≡ min (length (line c)) (2 ^ 64 - 1)
 sum_is c = summed 4 c (omega arith) ∙ ap (λ n. min n (2 ^ 64 - 1)) (sym (line_length c))
 
 -- Its bytes.

@@ -1,5 +1,5 @@
 -- What a memory spells, and what its sink means, when a call is done. Assumes nothing.
-use Rattle.std.proofs.Common.{◌≡◌, ℕ, ◌+◌, ◌-◌, ◌^◌, ◌≤◌, min, true, cond, ◌&&◌, List, [], ◌∷◌, ◌++◌, length, take, drop, replicate, ℤ, is_some, Some, None, Ok, vec_items, vec_len, Option, Result, Vec, sym, refl, ap, ◌∙◌, subst, append_assoc, append-nil, arith, length-append, length-take-le, length-drop, take_all, take-take, take_at, drop_at, take-append-drop}
+use Rattle.std.proofs.Common.{◌≡◌, ℕ, ◌+◌, ◌-◌, ◌^◌, ◌≤◌, min, true, cond, ◌&&◌, List, [], ◌∷◌, ◌++◌, length, take, drop, replicate, ℤ, is_some, Some, None, Ok, vec_items, vec_len, Option, Vec, sym, refl, ap, ◌∙◌, subst, append_assoc, append-nil, arith, length-append, length-take-le, length-drop, take_all, take-take, take_at, drop_at, take-append-drop}
 use borrow.Rule.Slice.PartMut.{put_mid}
 use mathlib.Core.Bool.{and-true}
 use lib.ListN.{length-replicate, replicate-append-replicate}
@@ -9,10 +9,9 @@ use Rattle.std.specs.Vec.{with_items}
 use Rattle.std.proofs.lemmas.List.{flat_map_more, drop-replicate, with_items_is}
 use Rattle.std.proofs.lemmas.Slice.{put_mid-paste}
 use Rattle.std.proofs.lemmas.Bool.{and_parts, and_from}
-use Rattle.project.specs.declared.refusal.Refusal.{Refusal}
 use Rattle.sinks.specs.Clauses.{Assignment, clausal, clauses, meets, meets_all}
 use Rattle.sinks.specs.Meanings.{Meaning, Same, Unchanged, Added, Struck}
-use Rattle.sinks.specs.Calls.{Verdict, Does, Ends, Order, Open, Appended, Reverted, Untouched, accepted, no, opening, adding, closing}
+use Rattle.sinks.specs.Calls.{Verdict, Ends, Order, Open, Appended, Reverted, accepted, no, opening, adding, closing}
 use Rattle.sinks.specs.Ledgers.{first_tally, may_open, may_charge, may_close, price, with_opening, charged, restored}
 use Rattle.sinks.specs.declared.ledger.Ledger.{Ledger}
 use Rattle.sinks.specs.declared.ledger.Tally.{Tally}
@@ -45,11 +44,11 @@ remains : (now new : Tally) (o : Option Tally) → is_some o ≡ true → first_
 remains now new None h = let z : ◌≡◌ {A = ℕ} 0 1 = cc in absurd (omega arith)
 remains now new (Some t) h = refl
 
--- what a call leaves that answers this, and where it is accepted does this to the meaning and to the order
-pub record Leaves {A B : Type 0} (s : Script A) (r : Result B Refusal) (answer : Verdict) (Done : (before after : Meaning) → Type 0) (Ordered : (before after : Order) → Type 0) (m m' : List A) (l l' : Ledger) : Type 0 where
+-- what an accepted call leaves, which answers this and does this to the meaning and to the order
+pub record Leaves {A : Type 0} (s : Script A) (answer : Verdict) (Done : (before after : Meaning) → Type 0) (Ordered : (before after : Order) → Type 0) (m m' : List A) (l l' : Ledger) : Type 0 where
   pub sound : Sound s m' l'
-  pub meaning : Ends r answer (Done (stored s m l) (stored s m' l')) (Unchanged (stored s m l) (stored s m' l'))
-  pub order : Does r (Ordered (Recorded s m l) (Recorded s m' l')) (Untouched (Recorded s m l) (Recorded s m' l'))
+  pub meaning : Ends {A = Unit {0}} (Ok tt) answer (Done (stored s m l) (stored s m' l')) (Unchanged (stored s m l) (stored s m' l'))
+  pub order : Ordered (Recorded s m l) (Recorded s m' l')
 
 module _ {A : Type 0} (s : Script A) where
   admits_same : (m m' : List A) → s.spelled m ≡ s.spelled m' → Same (admits s m) (admits s m')
@@ -199,7 +198,7 @@ module _ {A : Type 0} (s : Script A) (legible : Legible s) where
             (ap (λ (t : Tally). take (length m' - t.free) m') stays ∙ same_opening ∙ sd.begins ∙ ap (flat_map s.spell) (sym same_clauses ∙ ap (λ (t : Tally). take t.count (s.spelled m ++ c ∷ [])) (sym stays)))
             (subst (λ (t : Tally). (t.count ≤ l.tally.count + 1) × (l.tally.free - length (s.spell c) ≤ t.free) × (t.free ≤ length m')) (sym stays) (omega arith, omega arith, omega arith))
 
-        adds_some : accepted ≡ adding c (stored s m l) → Leaves {B = Unit {0}} s (Ok tt) (adding c (stored s m l)) (Added c) (Appended c) m m' l (charged (Some (length (s.spell c))) l)
+        adds_some : accepted ≡ adding c (stored s m l) → Leaves s (adding c (stored s m l)) (Added c) (Appended c) m m' l (charged (Some (length (s.spell c))) l)
         adds_some takes =
             let k = length (s.spell c) in
             let h = has_more in
@@ -216,13 +215,13 @@ module _ {A : Type 0} (s : Script A) (legible : Legible s) where
               );
             }
 
-    adds : (c : List ℤ) (p : Option ℕ) (at : ℕ) (m' : List A) (l' : Ledger) → p ≡ price c (length (s.spell c)) → Ends {A = Unit {0}} (Ok tt) (may_charge p l) (l' ≡ charged p l) (l' ≡ l) → at ≡ length m - l.tally.free → m' ≡ paste m at (s.spell c) (length (s.spell c)) → Leaves {B = Unit {0}} s (Ok tt) (adding c (stored s m l)) (Added c) (Appended c) m m' l l'
+    adds : (c : List ℤ) (p : Option ℕ) (at : ℕ) (m' : List A) (l' : Ledger) → p ≡ price c (length (s.spell c)) → Ends {A = Unit {0}} (Ok tt) (may_charge p l) (l' ≡ charged p l) (l' ≡ l) → at ≡ length m - l.tally.free → m' ≡ paste m at (s.spell c) (length (s.spell c)) → Leaves s (adding c (stored s m l)) (Added c) (Appended c) m m' l l'
     adds c p at m' l' priced h here is =
         let k = length (s.spell c) in
         let takes = h.answers ∙ ap (λ x. may_charge x l) priced in
         let a = ledgers.charges c k l takes in
         let stays = remains l.tally (charged (Some k) l).tally l.opening (opened l.opening _ takes) in
-        subst (λ n. Leaves s (Ok tt) (adding c (stored s m l)) (Added c) (Appended c) m m' l n) (sym (h.does ∙ ap (λ x. charged x l) priced ∙ a.ledger)) (adds_some c m' a.room (is ∙ ap (λ n. paste m n (s.spell c) k) here) a.clause stays (takes ∙ adding_is c))
+        subst (λ n. Leaves s (adding c (stored s m l)) (Added c) (Appended c) m m' l n) (sym (h.does ∙ ap (λ x. charged x l) priced ∙ a.ledger)) (adds_some c m' a.room (is ∙ ap (λ n. paste m n (s.spell c) k) here) a.clause stays (takes ∙ adding_is c))
 
     -- What was in use at the opening, and blank from there on.
 
@@ -241,7 +240,7 @@ module _ {A : Type 0} (s : Script A) (legible : Legible s) where
           (ap (take (length m' - t.free)) is ∙ take_at (opening_part m l) z (length m' - t.free) (omega arith) ∙ sd.begins ∙ ap (flat_map s.spell) (sym (take-take t.count t.count (s.spelled m) (omega arith))))
           (omega arith, omega arith, omega arith)
 
-      strikes_all : accepted ≡ may_close l → Leaves {B = Unit {0}} s (Ok tt) (closing (stored s m l)) Struck Reverted m m' l (restored l)
+      strikes_all : accepted ≡ may_close l → Leaves s (closing (stored s m l)) Struck Reverted m m' l (restored l)
       strikes_all closes =
           let first = has_first in
           record {
@@ -256,14 +255,14 @@ module _ {A : Type 0} (s : Script A) (legible : Legible s) where
             );
           }
 
-    strikes : (at : ℕ) (m' : List A) (l' : Ledger) → Ends {A = Unit {0}} (Ok tt) (may_close l) (l' ≡ restored l) (l' ≡ l) → at ≡ length m - l'.tally.free → m' ≡ take at m ++ replicate (length m - at) s.blank → Leaves {B = Unit {0}} s (Ok tt) (closing (stored s m l)) Struck Reverted m m' l l'
+    strikes : (at : ℕ) (m' : List A) (l' : Ledger) → Ends {A = Unit {0}} (Ok tt) (may_close l) (l' ≡ restored l) (l' ≡ l) → at ≡ length m - l'.tally.free → m' ≡ take at m ++ replicate (length m - at) s.blank → Leaves s (closing (stored s m l)) Struck Reverted m m' l l'
     strikes at m' l' h here is =
         let grew = sd.grew in
         let free = ap (λ (x : Ledger). x.tally.free) h.does in
         let front : at ≡ length m - (first_tally l).free = omega arith in
         let rest : length m - at ≡ (first_tally l).free = omega arith in
         let whole = is ∙ ap (λ n. take n m ++ replicate (length m - at) s.blank) front ∙ ap (λ n. opening_part m l ++ replicate n s.blank) rest in
-        subst (λ n. Leaves s (Ok tt) (closing (stored s m l)) Struck Reverted m m' l n) (sym h.does) (strikes_all m' whole h.answers)
+        subst (λ n. Leaves s (closing (stored s m l)) Struck Reverted m m' l n) (sym h.does) (strikes_all m' whole h.answers)
 
 -- The same, over a vector whose part from the end of what was in use, or to it, was lent as a slice and comes back as `part`. A memory is shorter than
 -- the largest number, so that a price which is cut off there is still the length.
@@ -273,7 +272,7 @@ module _ {A Z : Type 0} (s : Script A) (legible : Legible s) (v : Vec A Z) (lent
   refills w same = let lens = v.ok.0 in let long = ap length value in with_items_is v w (omega arith)
 
   pub adds_in : (c : List ℤ) (n : ℕ) (p : Option ℕ) → n ≡ min (length (s.spell c)) (2 ^ 64 - 1) → p ≡ price c n → Ends {A = Unit {0}} (Ok tt) (may_charge p l) (l' ≡ charged p l) (l' ≡ l) → part ≡ s.spell c
-      → Leaves {B = Unit {0}} s (Ok tt) (adding c (stored s (vec_items v) l)) (Added c) (Appended c) (vec_items v) (vec_items (with_items v (put_mid (size - was) ((size - now) - (size - was)) lent part))) l l'
+      → Leaves s (adding c (stored s (vec_items v) l)) (Added c) (Appended c) (vec_items v) (vec_items (with_items v (put_mid (size - was) ((size - now) - (size - was)) lent part))) l l'
   adds_in c n p long priced h is =
       let lens = v.ok in
       let small = v.small in
@@ -289,7 +288,7 @@ module _ {A Z : Type 0} (s : Script A) (legible : Legible s) (v : Vec A Z) (lent
       adds s legible (vec_items v) l sd c p (size - was) _ l' (priced ∙ ap (price c) fits) h (omega arith) (refills _ same ∙ w ∙ ap (λ d. paste d (size - was) (s.spell c) k) value)
 
   pub strikes_in : Ends {A = Unit {0}} (Ok tt) (may_close l) (l' ≡ restored l) (l' ≡ l) → part ≡ replicate (length (take ((size - was) - (size - now)) (drop (size - now) lent))) s.blank
-      → Leaves {B = Unit {0}} s (Ok tt) (closing (stored s (vec_items v) l)) Struck Reverted (vec_items v) (vec_items (with_items v (put_mid (size - now) ((size - was) - (size - now)) lent part))) l l'
+      → Leaves s (closing (stored s (vec_items v) l)) Struck Reverted (vec_items v) (vec_items (with_items v (put_mid (size - now) ((size - was) - (size - now)) lent part))) l l'
   strikes_in h is =
       let lens = v.ok in
       let grew = sd.grew in

@@ -2,7 +2,6 @@
 #![tactic(auto)]
 
 pub mod cells;
-mod line;
 pub mod spelling;
 pub mod store;
 pub mod text;

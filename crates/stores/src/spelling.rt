@@ -18,7 +18,7 @@ pub trait Spelling {
         requires { length memory.old ≡ length (script.spell clause.now) }
         ensures { memory.new ≡ script.spell clause.now };
 
-    // Blanks memory.
+    // Blanks memory. Each spelling fills its own, for of an element of any type it is not known that its clones are equal to it.
     fn wipe(memory: &mut [Self::Element])
         ensures { memory.new ≡ replicate (length memory.old) script.blank };
 

@@ -48,11 +48,7 @@ impl<S: Spelling> Store<S> {
         ensures holds { result.items ≡ page S.script self.ledger.tally.free (S.script.spelled self.memory.items) }
         ensures order { (before since : List (List ℤ)) → Recorded S.script self.memory.items self.ledger before since → result.items ≡ page S.script self.ledger.tally.free (before ++ since) }
     {
-        let Store {
-            memory,
-            ledger: _,
-            spelling: _,
-        } = self;
+        let Store { memory, .. } = self;
         memory
     }
 }

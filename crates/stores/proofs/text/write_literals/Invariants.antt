@@ -2,7 +2,7 @@ use Rattle.std.proofs.Common.{take}
 use Rattle.std.specs.List.{flat_map}
 use Rattle.numerals.specs.Puts.{PutAt}
 use Rattle.stores.specs.Texts.{spaced}
-use Rattle.stores.proofs.line.write_literals.Given as goal
+use Rattle.stores.proofs.text.write_literals.Given as goal
 
 abbrev pub invariant-loop-literal : goal.invariant-loop-literal
 invariant-loop-literal l =

@@ -4,7 +4,7 @@ use Rattle.std.proofs.lemmas.List.{take_all}
 use Rattle.std.proofs.lemmas.Int.{to_z-of_z}
 use Rattle.numerals.proofs.Writing.{put_none, put_same, piece_room, piece_more}
 use Rattle.stores.specs.Texts.{spaced}
-use Rattle.stores.proofs.line.write_literals.Goals as goal
+use Rattle.stores.proofs.text.write_literals.Goals as goal
 
 pub loop-literal-init : goal.loop-literal-init
 loop-literal-init c = put_none refl refl

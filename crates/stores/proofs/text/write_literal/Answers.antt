@@ -1,7 +1,7 @@
 use Rattle.std.proofs.Common.{arith, w32}
 use Rattle.std.proofs.lemmas.Int.{to_z-of_z}
 use Rattle.numerals.proofs.Writing.{put_then}
-use Rattle.stores.proofs.line.write_literal.Goals as goal
+use Rattle.stores.proofs.text.write_literal.Goals as goal
 
 pub returns : goal.returns
 returns c =

@@ -1,6 +1,6 @@
 use Rattle.std.proofs.Common.{arith}
 use Rattle.stores.proofs.Lines.{line_length, line_bytes}
-use Rattle.stores.proofs.line.write_line.Goals as goal
+use Rattle.stores.proofs.text.TextSpelling.write.Goals as goal
 
 pub write_literals-end-requires : goal.write_literals-end-requires
 write_literals-end-requires c =

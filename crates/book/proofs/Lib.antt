@@ -16,4 +16,3 @@ pub mod Spelling
 pub mod Taking
 pub mod TextLines
 pub mod Theorems
-pub mod Writing

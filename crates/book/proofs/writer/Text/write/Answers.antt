@@ -2,13 +2,13 @@ use Rattle.std.proofs.Common.{◌++◌, sym, refl, ap, ◌∙◌}
 use Rattle.std.specs.List.{flat_map}
 use Rattle.book.specs.Saying.{line_text}
 use Rattle.book.specs.Texts.{lines_left}
-use Rattle.book.proofs.Writing.{begun, more}
+use Rattle.numerals.proofs.Writing.{begun, more}
 use Rattle.book.proofs.writer.Text.write.Goals as goal
 
 pub loop-line-init : goal.loop-line-init
 loop-line-init c = record {
   same_reference = refl;
-  underway = begun c.new-page.ensures.place (ap (λ s. flat_map line_text (lines_left s)) c.into_iter-line-iterator.ensures.into_iter_gives ∙ c.lines-line-items.ensures.text);
+  underway = begun refl c.new-page.ensures.place (ap (λ s. flat_map line_text (lines_left s)) c.into_iter-line-iterator.ensures.into_iter_gives ∙ c.lines-line-items.ensures.text);
 }
 
 pub loop-line-preserved : goal.loop-line-preserved

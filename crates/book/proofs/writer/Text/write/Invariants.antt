@@ -2,7 +2,7 @@ use Rattle.std.proofs.Common.{◌≡◌}
 use Rattle.std.specs.List.{flat_map}
 use Rattle.book.specs.Texts.{lines_left, text_of}
 use Rattle.book.specs.Saying.{line_text}
-use Rattle.book.proofs.Writing.{Underway}
+use Rattle.numerals.proofs.Writing.{Underway}
 use Rattle.book.proofs.writer.Text.write.Given as goal
 
 abbrev pub invariant-loop-line : goal.invariant-loop-line

@@ -1,6 +1,6 @@
 // Reading a book into lent tables, line by line.
-ghost use Rattle.std.specs.Prelude.{◌≡◌, ℕ, ◌≤◌, false, ◌↔◌, List, [], length, replicate, if◌then◌else◌, Some, None, Ok, Err};
-ghost use Rattle.project.specs.Project.{Project, within, activity_fits, proper, is_blank, most_activities, most_resources, blank_activity, blank_pair};
+ghost use Rattle.std.specs.Prelude.{◌≡◌, ℕ, ◌≤◌, false, ◌&&◌, ◌↔◌, List, [], length, replicate, if◌then◌else◌, Some, None, Ok, Err};
+ghost use Rattle.project.specs.Project.{Project, within, activity_fits, proper, follows, is_blank, most_activities, most_resources, blank_activity, blank_pair};
 ghost use Rattle.project.specs.Refusals.{Refused, refused, answer};
 ghost use Rattle.book.specs.Accepted.{IsBook, Gave, Unread, Framed, sizes};
 ghost use Rattle.book.specs.Lines.{formed};
@@ -42,8 +42,8 @@ fn bounded(numbers: &[u32], limits: &[u8; MOST_RESOURCES]) -> Option<[u8; MOST_R
     ensures { result ≡ (if within (padded numbers.now) limits.now then Some (padded numbers.now) else None) }
 {
     let mut bytes = [0; MOST_RESOURCES];
-    for (k, (number, limit)) in numbers.iter().zip(limits).enumerate() {
-        bytes[k] = at_most(*limit, *number)?;
+    for (k, number) in numbers.iter().enumerate() {
+        bytes[k] = at_most(limits[k], *number)?;
     }
     Some(bytes)
 }
@@ -61,12 +61,12 @@ fn activity_of(numbers: &[u32], capacities: &[u8; MOST_RESOURCES]) -> Option<Act
     })
 }
 
-// The pair of an A, O or B line, if its numbers are two of so many activities, the lower first.
-fn pair_of(kind: Kind, numbers: &[u32], activities: usize) -> Option<Pair>
+// The pair of an A, O or B line, if its numbers are two of so many activities, the lower first, and it can follow the pairs before it.
+fn pair_of(kind: Kind, numbers: &[u32], activities: usize, before: &[Pair]) -> Option<Pair>
     requires kind { is_blank kind ≡ false }
     requires few { activities ≤ most_activities }
     requires two { length numbers.now ≡ 2 }
-    ensures { result ≡ (if proper activities (pair_of kind numbers.now) then Some (pair_of kind numbers.now) else None) }
+    ensures { result ≡ (if proper activities (pair_of kind numbers.now) && follows before.now (pair_of kind numbers.now) then Some (pair_of kind numbers.now) else None) }
 {
     let [first, second] = numbers else {
         return None;
@@ -76,11 +76,12 @@ fn pair_of(kind: Kind, numbers: &[u32], activities: usize) -> Option<Pair>
     if first < 1 || first >= second || usize::from(second) > activities {
         return None;
     }
-    Some(Pair {
+    let pair = Pair {
         kind,
         first,
         second,
-    })
+    };
+    can_follow(&pair, before).then_some(pair)
 }
 
 // The head of a project that has the capacities of a C line and nothing else yet, if they are within their limit.
@@ -136,13 +137,10 @@ fn add_pair(
     requires two { length numbers.now ≡ 2 }
     ensures { Put (pair_judged head kind numbers.now pairs.old) place (pair_more head) head.pairs pairs.old result pairs.new }
 {
-    let Some(pair) = pair_of(kind, numbers, head.activities) else {
+    let m = head.pairs;
+    let Some(pair) = pair_of(kind, numbers, head.activities, &pairs[..m]) else {
         return Err(Refusal::BadPair(place));
     };
-    let m = head.pairs;
-    if !can_follow(&pair, &pairs[0..m]) {
-        return Err(Refusal::BadPair(place));
-    }
     if m >= MOST_PAIRS || m >= pairs.len() {
         return Err(Refusal::TooMany(place));
     }

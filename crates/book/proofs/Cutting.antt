@@ -1,8 +1,9 @@
 -- How `words` and `lines` cut. Assumes nothing.
-use Rattle.std.proofs.Common.{◌≡◌, ℕ, zero, suc, ◌+◌, ◌-◌, ◌<◌, false, eqb, List, [], ◌∷◌, ◌++◌, length, get_or, take, drop, Some, None, sym, refl, ap, ◌∙◌, subst, add-one, arith}
-use Rattle.std.specs.List.{position}
+use Rattle.std.proofs.Common.{◌≡◌, ℕ, zero, suc, ◌+◌, ◌-◌, ◌<◌, ◌≤◌, Bool, true, false, eqb, List, [], ◌∷◌, ◌++◌, length, get_or, take, drop, Some, None, sym, refl, ap, ◌∙◌, subst, add-one, arith}
+use Rattle.std.specs.List.{position, suffix_len}
 use Rattle.std.proofs.Math.Seq.{split_at}
 use Rattle.std.proofs.lemmas.Bool.{eqb-true, eqb-false}
+use Rattle.std.proofs.lemmas.List.Sums.{suffix_len_is}
 use Rattle.std.proofs.lemmas.List.{append-nil, take_rest, drop-drop}
 use Rattle.std.proofs.lemmas.List.Quantifiers.{position-Some}
 use Rattle.book.specs.Lines.{space, words}
@@ -46,3 +47,15 @@ first_word p w more s = record {
   cut = ap words s.whole ∙ words_front w.text.now (space ∷ more.text.now) (words more.text.now) s.first refl;
   here = s.here;
 }
+
+-- where the last line starts: after the last byte that fails the test
+pub after_last : (p : ℕ → Bool) (xs : List ℕ) (i : ℕ) → i < length xs → p (get_or xs i 0) ≡ false → ((k : ℕ) → i + 1 ≤ k → k < length xs → p (get_or xs k 0) ≡ true) → i + 1 ≡ length xs - suffix_len p xs
+after_last p xs i lt at after =
+    let same : i + 1 - 1 ≡ i = omega arith in
+    let e = suffix_len_is p xs (i + 1) 0 (omega arith) after (λ _. ap (λ n. p (get_or xs n 0)) same ∙ at) in
+    omega arith
+
+pub none_fails : (p : ℕ → Bool) (xs : List ℕ) → ((k : ℕ) → k < length xs → p (get_or xs k 0) ≡ true) → 0 ≡ length xs - suffix_len p xs
+none_fails p xs all =
+    let e = suffix_len_is p xs 0 0 (omega arith) (λ k _ lt. all k lt) (λ lt. absurd (omega arith)) in
+    omega arith

@@ -1,11 +1,12 @@
 // Reading a book into lent tables, line by line.
-ghost use Rattle.std.specs.Prelude.{◌≡◌, ℕ, ◌≤◌, false, ◌&&◌, ◌↔◌, List, [], length, replicate, if◌then◌else◌, Some, None, Ok, Err};
+ghost use Rattle.std.specs.Prelude.{◌≡◌, ℕ, ◌-◌, ◌≤◌, false, ◌&&◌, ◌↔◌, List, [], length, replicate, if◌then◌else◌, Some, None, Ok, Err};
+ghost use Rattle.std.specs.List.{suffix_len};
 ghost use Rattle.project.specs.Project.{Project, within, activity_fits, proper, follows, is_blank, most_activities, most_resources, blank_activity, blank_pair};
 ghost use Rattle.project.specs.Refusals.{Refused, refused, answer};
 ghost use Rattle.book.specs.Accepted.{IsBook, Gave, Unread, Framed, sizes};
 ghost use Rattle.book.specs.Lines.{formed};
 ghost use Rattle.book.specs.Parsed.{most_numbers};
-ghost use Rattle.book.specs.Reading.{judged, resources_of, padded, activity_of, trailed, trailer, reading, head_answer, activities_after, pairs_after, pair_of};
+ghost use Rattle.book.specs.Reading.{judged, not_lf, resources_of, padded, activity_of, trailed, trailer, reading, head_answer, activities_after, pairs_after, pair_of};
 ghost use Rattle.book.specs.Written.{written};
 ghost use Rattle.book.specs.Steps.{activity_judged, pair_judged, opening, at_most, Ready, activity_more, pair_more, Put, Took, KeptSofar, sofar_of, content_in, trailer_told, closing, Reads};
 
@@ -219,18 +220,29 @@ fn point(book: &[u8], place: usize, line: &Line) -> Option<Trailer>
     })
 }
 
+// Where the last line starts: after the last LF, if there is one.
+fn line_start(lines: &[u8]) -> usize
+    ensures value { result ≡ length lines.now - suffix_len not_lf lines.now }
+    ensures within { result ≤ length lines.now }
+{
+    match lines.iter().rposition(|b| *b == LF) {
+        Some(at) => at + 1,
+        None => 0,
+    }
+}
+
 fn find_trailer(book: &[u8]) -> Option<Trailer>
     ensures { trailer_told result ≡ trailer book.now }
 {
-    let [front @ .., LF] = book else {
+    let [lines @ .., LF] = book else {
         return None;
     };
     if book.len() > MOST_BYTES {
         return None;
     }
-    let place = front.iter().rposition(|b| *b == LF).map_or(0, |lf| lf + 1);
+    let place = line_start(lines);
     let (letter, words) = Words::first(Part {
-        text: &front[place..],
+        text: &lines[place..],
         place,
     });
     let line = read_line(letter, words, 0).ok()?;

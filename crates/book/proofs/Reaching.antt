@@ -1,23 +1,17 @@
 -- A line read and then taken into the tables. Assumes nothing.
-use Rattle.std.proofs.Common.{◌≡◌, ℕ, ◌≤◌, true, List, length, Some, None, Ok, Err, Option, Result, sym, refl, ap, ◌∙◌, subst, arith}
+use Rattle.std.proofs.Common.{◌≡◌, ℕ, ◌≤◌, true, List, length, Some, Result, sym, refl, subst, arith}
 use Rattle.project.specs.Project.{most_resources}
-use Rattle.project.specs.Refusals.{answer}
 use Rattle.project.specs.declared.refusal.Refusal.{Refusal}
-use Rattle.project.specs.declared.tables.Activity.{Activity}
-use Rattle.project.specs.declared.tables.Head.{Head}
 use Rattle.project.specs.declared.tables.Kind.TheVariants.{Blank, And, Or, Bi}
-use Rattle.project.specs.declared.tables.Pair.{Pair}
 use Rattle.book.specs.declared.lines.Line.{Line}
 use Rattle.book.specs.declared.lines.LineKind.{LineKind}
 use Rattle.book.specs.declared.lines.LineKind.TheVariants.{Capacities, Job, Pairing, Trailer}
 use Rattle.book.specs.declared.words.Word.{Word}
 use Rattle.book.specs.declared.words.Words.{Words}
 use Rattle.book.specs.Cuts.{LetterCut, place_of, said}
-use Rattle.book.specs.Lines.{Content, fewest, most, formed}
+use Rattle.book.specs.Lines.{fewest, most, formed}
 use Rattle.book.specs.Parsed.{LineRead}
-use Rattle.book.specs.Accepted.{sizes}
-use Rattle.book.specs.Reading.{resources_of, judged}
-use Rattle.book.specs.Steps.{sofar_of, KeptSofar, content_in, lettered, Ready, Took}
+use Rattle.book.specs.Steps.{content_in, lettered, Ready}
 use Rattle.book.proofs.Numbering.{formed_said}
 use Rattle.book.proofs.Spelling.{formed_says}
 

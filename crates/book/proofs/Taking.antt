@@ -1,7 +1,7 @@
 -- A line taken into the tables, as the reader's definition has it. Assumes nothing.
-use Rattle.std.proofs.Common.{◌≡◌, ℕ, zero, suc, ◌+◌, ◌-◌, ◌<◌, ◌≤◌, Bool, true, false, cond, not, ◌&&◌, ltb, leb, List, [], ◌∷◌, ◌++◌, length, get_or, take, drop, set, replicate, Some, None, Ok, Err, Option, Result, sym, refl, ap, ◌∙◌, subst, append_assoc, add-one, arith}
+use Rattle.std.proofs.Common.{◌≡◌, ℕ, zero, suc, ◌+◌, ◌-◌, ◌<◌, ◌≤◌, Bool, true, false, cond, not, ◌&&◌, ltb, leb, List, [], ◌∷◌, ◌++◌, length, take, drop, set, replicate, Some, None, Ok, Err, Option, Result, sym, refl, ap, ◌∙◌, subst, append_assoc, add-one, arith}
 use Rattle.std.specs.Option.{ok_or}
-use Rattle.std.proofs.lemmas.List.{length-take-le, length_push, length-set, length-append, length-replicate, set_split, take-append-drop, take-replicate}
+use Rattle.std.proofs.lemmas.List.{length-take-le, length_push, length-set, set_split, take-append-drop}
 use Rattle.std.proofs.lemmas.Bool.{and_from, and_parts, ltb-true, lt-ltb, le-leb}
 use Rattle.project.specs.Project.{Project, project_of, head_of, filled, most_activities, most_resources, most_capacity, most_pairs, activity_fits, proper, follows, within}
 use Rattle.project.specs.Refusals.{answer}
@@ -16,7 +16,7 @@ use Rattle.book.specs.declared.lines.LineKind.{LineKind}
 use Rattle.book.specs.declared.lines.LineKind.TheVariants.{Capacities, Job, Pairing}
 use Rattle.book.specs.Accepted.{sizes}
 use Rattle.book.specs.Lines.{most}
-use Rattle.book.specs.Reading.{padded, activity_of, pair_of, opened, with_activity, with_pair, is_nil, at_most, judged}
+use Rattle.book.specs.Reading.{activity_of, pair_of, opened, with_activity, with_pair, is_nil, at_most, judged}
 use Rattle.book.specs.Steps.{sofar_of, Kept, KeptSofar, content_in, Ready, opening, activity_judged, pair_judged, activity_more, pair_more, Put, Took}
 
 module _ {A : Type 0} (xs : List A) (n : ℕ) where

@@ -1,6 +1,7 @@
 // The lines of a book: a letter that tells the kind of line, and numbers.
 ghost use Rattle.std.specs.Prelude.{◌≡◌, ◌≤◌};
-ghost use Rattle.book.specs.Lines.{kind_word, fewest, most, numerals};
+ghost use Rattle.std.specs.Result.{result_ok};
+ghost use Rattle.book.specs.Lines.{kind_of, fewest, most, numerals};
 ghost use Rattle.book.specs.Cuts.{left, place_of, said};
 ghost use Rattle.book.specs.Parsed.{NumbersRead, LineRead, in_range, most_numbers};
 ghost use Rattle.project.specs.Project.{most_resources};
@@ -53,21 +54,22 @@ impl<'a> Iterator for Lines<'a> {
     }
 }
 
-// The kind that a word tells, if it is one letter.
-pub(crate) fn line_kind(word: &[u8]) -> Option<LineKind>
-    ensures { result ≡ kind_word word.now }
-{
-    let [letter] = word else {
-        return None;
-    };
-    match char::from(*letter) {
-        'C' => Some(LineKind::Capacities),
-        'J' => Some(LineKind::Job),
-        'A' => Some(LineKind::Pairing(Kind::And)),
-        'O' => Some(LineKind::Pairing(Kind::Or)),
-        'B' => Some(LineKind::Pairing(Kind::Bi)),
-        'Z' => Some(LineKind::Trailer),
-        _ => None,
+// The kind of line that a letter tells.
+impl TryFrom<u8> for LineKind {
+    type Error = ();
+
+    ghost try_from_gives = { λ letter r. result_ok r ≡ kind_of letter };
+
+    fn try_from(letter: u8) -> Result<LineKind, ()> {
+        match char::from(letter) {
+            'C' => Ok(LineKind::Capacities),
+            'J' => Ok(LineKind::Job),
+            'A' => Ok(LineKind::Pairing(Kind::And)),
+            'O' => Ok(LineKind::Pairing(Kind::Or)),
+            'B' => Ok(LineKind::Pairing(Kind::Bi)),
+            'Z' => Ok(LineKind::Trailer),
+            _ => Err(()),
+        }
     }
 }
 

@@ -2,7 +2,7 @@
 ghost use Rattle.std.specs.Prelude.{◌≡◌, ◌+◌, ◌≤◌, length};
 ghost use Rattle.book.specs.Lines.{numeral, most_bytes};
 
-use crate::lines::{LineKind, line_kind};
+use crate::lines::LineKind;
 
 // The byte that ends a line.
 pub(crate) const LF: u8 = b'\n';
@@ -110,8 +110,8 @@ impl Word<'_> {
         ensures { result ≡ kind_told self.entry }
     {
         match self {
-            Word::Letter(text, _) => line_kind(text),
-            Word::Number(_, _) => None,
+            Word::Letter([letter], _) => LineKind::try_from(*letter).ok(),
+            _ => None,
         }
     }
 }

@@ -1,37 +1,27 @@
 -- How `words` and `lines` cut. Assumes nothing.
-use Rattle.std.proofs.Common.{◌≡◌, ℕ, zero, suc, ◌+◌, ◌-◌, ◌<◌, ◌≤◌, Bool, true, false, eqb, List, [], ◌∷◌, ◌++◌, length, get_or, take, drop, Some, None, sym, refl, ap, ◌∙◌, subst, add-one, arith}
-use Rattle.std.specs.List.{position, suffix_len}
+use Rattle.std.proofs.Common.{◌≡◌, ℕ, zero, suc, ◌+◌, ◌-◌, ◌<◌, ◌≤◌, Bool, true, false, List, [], ◌∷◌, ◌++◌, length, get_or, take, drop, Some, None, sym, refl, ap, ◌∙◌, subst, add-one, arith}
+use Rattle.std.specs.List.{suffix_len}
 use Rattle.std.proofs.Math.Seq.{split_at}
-use Rattle.std.proofs.lemmas.Bool.{eqb-true, eqb-false}
 use Rattle.std.proofs.lemmas.List.Sums.{suffix_len_is}
 use Rattle.std.proofs.lemmas.List.{append-nil, take_rest, drop-drop}
-use Rattle.std.proofs.lemmas.List.Quantifiers.{position-Some}
 use Rattle.book.specs.Lines.{space, words}
 use Rattle.book.specs.Cuts.{Without, SplitAt, WordCut}
 use Rattle.book.specs.declared.words.Part.{Part}
 use Rattle.book.proofs.Spelling.{words_front}
 
-without_front : (b : ℕ) (xs : List ℕ) (i : ℕ) → ((k : ℕ) → k < i → eqb (get_or xs k 0) b ≡ false) → Without b (take i xs)
+without_front : (b : ℕ) (xs : List ℕ) (i : ℕ) → ((k : ℕ) → k < i → get_or xs k 0 ≡ b → ⊥) → Without b (take i xs)
 without_front b [] zero h = tt
 without_front b [] (suc i) h = tt
 without_front b (x ∷ xs) zero h = tt
 without_front b (x ∷ xs) (suc i) h =
-    (eqb-false x b (h 0 (omega arith)), without_front b xs i (λ k lt. h (suc k) (omega arith)))
+    (h 0 (omega arith), without_front b xs i (λ k lt. h (suc k) (omega arith)))
 
--- a list cut at the first place of b
-front_of : (b : ℕ) (xs : List ℕ) (i : ℕ) → position (λ x. eqb x b) xs ≡ Some i → (xs ≡ take i xs ++ b ∷ drop (i + 1) xs) × Without b (take i xs)
-front_of b xs i is =
-    let at = position-Some (λ x. eqb x b) xs i 0 is in (
-      split_at xs i 0 at.0 ∙ ap (λ c. take i xs ++ c ∷ drop (suc i) xs) (eqb-true _ b at.1) ∙ ap (λ n. take i xs ++ b ∷ drop n xs) (sym (add-one i)),
-      without_front b xs i at.2,
-    )
-
-pub split_parts : (b : ℕ) (xs front back : List ℕ) (i : ℕ) → position (λ x. eqb x b) xs ≡ Some i → front ≡ take i xs → back ≡ drop i xs → (xs ≡ front ++ b ∷ take (length back - 1) (drop 1 back)) × Without b front
-split_parts b xs front back i is f k =
-    let cut = front_of b xs i is in
+-- a list cut around the first place of b
+pub split_parts : (b : ℕ) (xs front back : List ℕ) (i : ℕ) → i < length xs → get_or xs i 0 ≡ b → ((k : ℕ) → k < i → get_or xs k 0 ≡ b → ⊥) → front ≡ take i xs → back ≡ drop i xs → (xs ≡ front ++ b ∷ take (length back - 1) (drop 1 back)) × Without b front
+split_parts b xs front back i lt at before f k =
     let tail : take (length back - 1) (drop 1 back) ≡ drop (i + 1) xs = take_rest back 1 ∙ ap (drop 1) k ∙ drop-drop 1 i xs in (
-      cut.0 ∙ ap (λ l. l ++ b ∷ drop (i + 1) xs) (sym f) ∙ ap (λ l. front ++ b ∷ l) (sym tail),
-      subst (Without b) (sym f) cut.1,
+      split_at xs i 0 lt ∙ ap (λ c. take i xs ++ c ∷ drop (suc i) xs) at ∙ ap (λ n. take i xs ++ b ∷ drop n xs) (sym (add-one i)) ∙ ap (λ l. l ++ b ∷ drop (i + 1) xs) (sym f) ∙ ap (λ l. front ++ b ∷ l) (sym tail),
+      subst (Without b) (sym f) (without_front b xs i before),
     )
 
 -- the first word ends with the line

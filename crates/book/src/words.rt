@@ -1,6 +1,6 @@
 // The words of a line: each is a part of the book, with its place.
 ghost use Rattle.std.specs.Prelude.{◌≡◌, ◌+◌, ◌≤◌, length};
-ghost use Rattle.book.specs.Lines.{numeral, most_bytes};
+ghost use Rattle.book.specs.Lines.{is_numeral, numeral, most_bytes};
 
 use crate::lines::LineKind;
 
@@ -68,15 +68,21 @@ impl<'a> Part<'a> {
     }
 }
 
-// The number that a word writes, if it is one to five digits with no needless zero.
-pub(crate) fn numeral(word: &[u8]) -> Option<u32>
-    ensures { result ≡ numeral word.now }
+// Whether a word is one to five digits, with no needless zero.
+fn is_numeral(word: &[u8]) -> bool
+    ensures { result ≡ is_numeral word.now }
 {
     if word.is_empty() || word.len() > MOST_DIGITS || (word[0] == b'0' && word.len() > 1) {
-        return None;
+        return false;
     }
-    // `parse` alone would take a sign too.
-    if !word.iter().all(|b| b.is_ascii_digit()) {
+    word.iter().all(|b| b.is_ascii_digit())
+}
+
+// The number that a word writes, if it is a numeral: `parse` alone would read a sign and needless zeros.
+fn numeral(word: &[u8]) -> Option<u32>
+    ensures { result ≡ numeral word.now }
+{
+    if !is_numeral(word) {
         return None;
     }
     str::from_utf8(word).ok()?.parse().ok()
@@ -90,8 +96,7 @@ impl Word<'_> {
         ensures { result ≡ place_of self.entry }
     {
         match self {
-            Word::Letter(_, place) => place,
-            Word::Number(_, place) => place,
+            Word::Letter(_, place) | Word::Number(_, place) => place,
         }
     }
 

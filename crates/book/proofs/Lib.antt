@@ -1,5 +1,4 @@
 pub mod Acceptance
-pub mod Adding
 pub mod Answering
 pub mod Bodies
 pub mod Cutting

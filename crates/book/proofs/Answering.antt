@@ -1,5 +1,5 @@
 -- What the format says of a book, said of the answer of a call. Assumes nothing.
-use Rattle.std.proofs.Common.{◌≡◌, ℕ, ◌↔◌, List, [], length, take, replicate, Ok, Err, Result, sym, refl, ap, ◌∙◌, subst, arith}
+use Rattle.std.proofs.Common.{◌≡◌, ℕ, ◌↔◌, List, [], length, replicate, Ok, Err, Result, sym, ap, ◌∙◌, arith}
 use Rattle.project.specs.Project.{Project, project_of, head_of, blank_activity, blank_pair}
 use Rattle.project.specs.Refusals.{Refused, refused, answer}
 use Rattle.project.specs.declared.refusal.Refusal.{Refusal}

@@ -5,7 +5,7 @@ ghost use Rattle.project.specs.Project.{Sound, project_of, most_activities, most
 ghost use Rattle.project.specs.Refusals.{answer, refused};
 ghost use Rattle.book.specs.Accepted.{WritesBook};
 ghost use Rattle.book.specs.Reading.{ReadsBack};
-ghost use Rattle.book.specs.Lines.{letter, spaced};
+ghost use Rattle.book.specs.Lines.{spaced};
 ghost use Rattle.book.specs.Parsed.{most_numbers};
 ghost use Rattle.book.specs.Saying.{Writable, line_text, saying};
 ghost use Rattle.book.specs.Written.{activity_line, capacities_line, pair_line, trailer_line, written, writing, bytes_after};
@@ -26,12 +26,15 @@ const MOST_LINE_BYTES: usize = 2 + MOST_NUMBERS * MOST_SPACED;
 
 type LineText = ArrayVec<u8, MOST_LINE_BYTES>;
 
-impl LineKind {
-    // The letter that tells the kind. It is no `From`: no line is of a blank pair, which has no letter.
-    fn letter(self) -> u8
-        ensures { result ≡ letter self }
-    {
-        match self {
+// The letter that tells a kind of line. No line is of a blank pair.
+impl From<LineKind> for u8 {
+    ghost use Rattle.std.specs.Prelude.{◌≡◌};
+    ghost use Rattle.book.specs.Lines.{letter};
+
+    ghost from_gives = { λ kind byte. byte ≡ letter kind };
+
+    fn from(kind: LineKind) -> u8 {
+        match kind {
             LineKind::Capacities => b'C',
             LineKind::Job => b'J',
             LineKind::Pairing(Kind::Blank) => 0,
@@ -60,7 +63,7 @@ impl Line {
         ensures { result.items ≡ line_text self.now }
     {
         let mut text = LineText::new();
-        text.push(self.kind.letter());
+        text.push(u8::from(self.kind));
         for number in self.numbers.as_slice() {
             push_number(&mut text, *number);
         }
@@ -131,7 +134,7 @@ fn trailer_line(lines: usize) -> Line
 
 // The lines of a text that are still to come. It is no chain of iterators, since the type of one that holds closures cannot be named.
 #[derive(Drop)]
-struct Lines<'t> {
+struct TextLines<'t> {
     capacities: Option<Line>,
     resources: usize,
     activities: &'t [Activity],
@@ -139,7 +142,7 @@ struct Lines<'t> {
     trailer: Option<Line>,
 }
 
-impl Iterator for Lines<'_> {
+impl Iterator for TextLines<'_> {
     ghost use Rattle.std.specs.Iterator.{YieldsFirst, item_count};
     ghost use Rattle.book.specs.Texts.{lines_left};
 
@@ -177,7 +180,7 @@ impl<'t> Text<'t> {
     ghost use Rattle.numerals.specs.Puts.{PutAt};
     ghost use Rattle.book.specs.Texts.{lines_left, text_of};
 
-    fn lines(self) -> Lines<'t>
+    fn lines(self) -> TextLines<'t>
         ensures text { flat_map line_text (lines_left result) ≡ text_of self.entry }
         ensures bound { length (lines_left result) ≤ most_activities + most_pairs + 2 }
     {
@@ -185,7 +188,7 @@ impl<'t> Text<'t> {
         let activities = &self.tables.activities[..head.activities];
         let pairs = &self.tables.pairs[..head.pairs];
         let before = 1 + activities.len() + pairs.len();
-        Lines {
+        TextLines {
             capacities: Some(capacities_line(&head)),
             resources: head.resources,
             activities,

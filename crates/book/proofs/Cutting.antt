@@ -1,37 +1,51 @@
 -- How `words` and `lines` cut. Assumes nothing.
-use Rattle.std.proofs.Common.{◌≡◌, ℕ, ◌+◌, ◌-◌, ◌<◌, ◌≤◌, Bool, true, false, cond, not, eqb, List, [], ◌∷◌, length, take, drop, sym, refl, ap, ◌∙◌, one-add, arith}
-use Rattle.std.specs.List.{prefix_len}
-use Rattle.std.proofs.lemmas.List.{drop_more, drop-drop, drop_all}
-use Rattle.book.specs.Lines.{space, onto, words}
-use Rattle.book.specs.Cuts.{other, after}
+use Rattle.std.proofs.Common.{◌≡◌, ℕ, zero, suc, ◌+◌, ◌-◌, ◌<◌, ◌≤◌, Bool, true, false, List, [], ◌∷◌, ◌++◌, length, get_or, take, drop, Some, None, sym, refl, ap, ◌∙◌, subst, add-one, arith}
+use Rattle.std.specs.List.{suffix_len}
+use Rattle.std.proofs.Math.Seq.{split_at}
+use Rattle.std.proofs.lemmas.List.Sums.{suffix_len_is}
+use Rattle.std.proofs.lemmas.List.{append-nil, take_rest, drop-drop}
+use Rattle.book.specs.Lines.{space, words}
+use Rattle.book.specs.Cuts.{Without, SplitAt, WordCut}
+use Rattle.book.specs.declared.words.Part.{Part}
+use Rattle.book.proofs.Spelling.{words_front}
 
--- the first word, and the words after it
-pub words_cut : (l : List ℕ) → words l ≡ take (prefix_len (other space) l) l ∷ after (drop (prefix_len (other space) l) l)
-words_cut [] = refl
-words_cut (b ∷ bs) = go (eqb b space) (words_cut bs)
-  where
-    k : ℕ
-    k = prefix_len (other space) bs
+without_front : (b : ℕ) (xs : List ℕ) (i : ℕ) → ((k : ℕ) → k < i → get_or xs k 0 ≡ b → ⊥) → Without b (take i xs)
+without_front b [] zero h = tt
+without_front b [] (suc i) h = tt
+without_front b (x ∷ xs) zero h = tt
+without_front b (x ∷ xs) (suc i) h =
+    (h 0 (omega arith), without_front b xs i (λ k lt. h (suc k) (omega arith)))
 
-    go : (t : Bool) → words bs ≡ take k bs ∷ after (drop k bs) → cond t ([] ∷ words bs) (onto b (words bs)) ≡ take (cond (not t) (1 + k) 0) (b ∷ bs) ∷ after (drop (cond (not t) (1 + k) 0) (b ∷ bs))
-    go true e = refl
-    go false e = ap (onto b) e ∙ ap (λ n. take n (b ∷ bs) ∷ after (drop n (b ∷ bs))) (sym (one-add k))
+-- a list cut around the first place of b
+pub split_parts : (b : ℕ) (xs front back : List ℕ) (i : ℕ) → i < length xs → get_or xs i 0 ≡ b → ((k : ℕ) → k < i → get_or xs k 0 ≡ b → ⊥) → front ≡ take i xs → back ≡ drop i xs → (xs ≡ front ++ b ∷ take (length back - 1) (drop 1 back)) × Without b front
+split_parts b xs front back i lt at before f k =
+    let tail : take (length back - 1) (drop 1 back) ≡ drop (i + 1) xs = take_rest back 1 ∙ ap (drop 1) k ∙ drop-drop 1 i xs in (
+      split_at xs i 0 lt ∙ ap (λ c. take i xs ++ c ∷ drop (suc i) xs) at ∙ ap (λ n. take i xs ++ b ∷ drop n xs) (sym (add-one i)) ∙ ap (λ l. l ++ b ∷ drop (i + 1) xs) (sym f) ∙ ap (λ l. front ++ b ∷ l) (sym tail),
+      subst (Without b) (sym f) (without_front b xs i before),
+    )
 
--- the first word ends where `find` says
-pub first_cut : (l : List ℕ) (e : ℕ) → e ≡ 0 + prefix_len (other space) (drop 0 l) → words l ≡ take (e - 0) l ∷ after (drop e l)
-first_cut l e is =
-    let k : prefix_len (other space) l ≡ e = omega arith in
-    let m : e - 0 ≡ e = omega arith in
-    words_cut l ∙ ap (λ n. take n l ∷ after (drop n l)) k ∙ ap (λ n. take n l ∷ after (drop e l)) (sym m)
+-- the first word ends with the line
+pub last_word : (p : Part) → Without space p.text.now → WordCut p p None
+last_word p h = record {
+  cut = ap words (sym (append-nil p.text.now)) ∙ words_front p.text.now [] [] h refl;
+  here = refl;
+}
 
--- and so does the next, which starts after a space
-pub next_cut : (l : List ℕ) (at e : ℕ) → at < length l → e ≡ (at + 1) + prefix_len (other space) (drop (at + 1) l) → after (drop at l) ≡ take (e - (at + 1)) (drop (at + 1) l) ∷ after (drop e l)
-next_cut l at e lt is =
-    let rest = drop (at + 1) l in
-    let k = prefix_len (other space) rest in
-    let m : k ≡ e - (at + 1) = omega arith in
-    let j : (at + 1) + k ≡ e = sym is in
-    ap after (drop_more l at 0 lt) ∙ words_cut rest ∙ ap (λ n. take n rest ∷ after (drop k rest)) m ∙ ap (λ xs. take (e - (at + 1)) rest ∷ after xs) (drop-drop k (at + 1) l ∙ ap (λ n. drop n l) j)
+-- or at the first space
+pub first_word : (p w more : Part) → SplitAt space p w more → WordCut p w (Some more)
+first_word p w more s = record {
+  cut = ap words s.whole ∙ words_front w.text.now (space ∷ more.text.now) (words more.text.now) s.first refl;
+  here = s.here;
+}
 
-pub none_cut : (l : List ℕ) (at : ℕ) → length l ≤ at → after (drop at l) ≡ []
-none_cut l at le = ap after (drop_all at l le)
+-- where the last line starts: after the last byte that fails the test
+pub after_last : (p : ℕ → Bool) (xs : List ℕ) (i : ℕ) → i < length xs → p (get_or xs i 0) ≡ false → ((k : ℕ) → i + 1 ≤ k → k < length xs → p (get_or xs k 0) ≡ true) → i + 1 ≡ length xs - suffix_len p xs
+after_last p xs i lt at after =
+    let same : i + 1 - 1 ≡ i = omega arith in
+    let e = suffix_len_is p xs (i + 1) 0 (omega arith) after (λ _. ap (λ n. p (get_or xs n 0)) same ∙ at) in
+    omega arith
+
+pub none_fails : (p : ℕ → Bool) (xs : List ℕ) → ((k : ℕ) → k < length xs → p (get_or xs k 0) ≡ true) → 0 ≡ length xs - suffix_len p xs
+none_fails p xs all =
+    let e = suffix_len_is p xs 0 0 (omega arith) (λ k _ lt. all k lt) (λ lt. absurd (omega arith)) in
+    omega arith

@@ -19,7 +19,7 @@ Free l = AllByRecursion (λ b. b ≡ lf → ⊥) l
 
 -- Lines.
 
-first_line : (l rest : List ℕ) → Free l → lines (l ++ lf ∷ rest) ≡ l ∷ lines rest
+pub first_line : (l rest : List ℕ) → Free l → lines (l ++ lf ∷ rest) ≡ l ∷ lines rest
 first_line [] rest h = refl
 first_line (b ∷ l) rest h = rw (ne_eqb b lf h.0, first_line l rest h.1)
 

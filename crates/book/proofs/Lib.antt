@@ -1,5 +1,4 @@
 pub mod Acceptance
-pub mod Adding
 pub mod Answering
 pub mod Bodies
 pub mod Cutting
@@ -9,10 +8,10 @@ pub mod Faulting
 pub mod Frames
 pub mod Looping
 pub mod Numbering
+pub mod Publishing
 pub mod Reaching
 pub mod Refusing
 pub mod Spelling
 pub mod Taking
 pub mod TextLines
 pub mod Theorems
-pub mod Writing

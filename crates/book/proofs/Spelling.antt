@@ -19,7 +19,7 @@ none_some e = let z : ◌≡◌ {A = ℕ} 0 1 = cc in omega arith
 
 -- One number.
 
-own : IsNumeralModel (λ ds. all_ascii_digits ds ≡ true) (digits_value 10)
+pub own : IsNumeralModel (λ ds. all_ascii_digits ds ≡ true) (digits_value 10)
 own = numerals_by_value _ tells_all_ascii_digits
 
 digits_all : (ds : List ℕ) → all_ascii_digits ds ≡ true → AllByRecursion (IsInRange 48 57) ds
@@ -89,7 +89,7 @@ abbrev unwords : List (List ℕ) → List ℕ
 unwords [] = []
 unwords (w ∷ ws) = w ++ flat_map spaced_word ws
 
-words_front : (w r : List ℕ) (ws : List (List ℕ)) → Clear w → words r ≡ [] ∷ ws → words (w ++ r) ≡ w ∷ ws
+pub words_front : (w r : List ℕ) (ws : List (List ℕ)) → Clear w → words r ≡ [] ∷ ws → words (w ++ r) ≡ w ∷ ws
 words_front [] r ws c e = e
 words_front (b ∷ w) r ws c e =
     cond-false (eqb b space) _ _ (ne_eqb b space c.0) ∙ ap (onto b) (words_front w r ws c.1 e)

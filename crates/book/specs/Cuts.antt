@@ -1,18 +1,33 @@
--- How words are cut off a line. Assumes nothing.
-use Rattle.std.specs.Prelude.{◌≡◌, ℕ, suc, ◌+◌, ◌≤◌, Bool, not, List, [], ◌∷◌, length, drop, Some, None, Option, ◌==◌}
-use Rattle.book.specs.Lines.{most_bytes, words, numeral, kind_word}
+-- How lines are cut off a book, and words off a line. Assumes nothing.
+use Rattle.std.specs.Prelude.{◌≡◌, ℕ, ◌+◌, List, [], ◌∷◌, ◌++◌, length, Some, None, Option}
+use Rattle.std.specs.List.{AllByRecursion}
+use Rattle.book.specs.Lines.{lf, Content, words, numeral, numerals, kind_word, content, if_counted}
 use Rattle.book.specs.declared.lines.LineKind.{LineKind}
+use Rattle.book.specs.declared.lines.Lines.{Lines}
+use Rattle.book.specs.declared.words.Part.{Part}
 use Rattle.book.specs.declared.words.Word.{Word}
 use Rattle.book.specs.declared.words.Word.TheVariants.{Letter, Number}
 use Rattle.book.specs.declared.words.Words.{Words}
 
-abbrev pub other : ℕ → ℕ → Bool
-other b c = not (c == b)
+-- the byte b is not among these
+abbrev pub Without : ℕ → List ℕ → Type 0
+Without b bs = AllByRecursion (λ c. c ≡ b → ⊥) bs
 
--- the words after a front of a line that ends at a space or with the line
-abbrev pub after : List ℕ → List (List ℕ)
-after [] = []
-after (b ∷ bs) = words bs
+-- the part p is `front`, the first byte b in it, and `rest`
+pub record SplitAt (b : ℕ) (p front rest : Part) : Type 0 where
+  pub whole : p.text.now ≡ front.text.now ++ b ∷ rest.text.now
+  pub first : Without b front.text.now
+  pub here : front.place ≡ p.place
+  pub after : rest.place ≡ p.place + length front.text.now + 1
+
+abbrev pub SplitOnce : ℕ → Part → Option (Part × Part) → Type 0
+SplitOnce b p None = Without b p.text.now
+SplitOnce b p (Some q) = SplitAt b p q.0 q.1
+
+-- the next line was taken from ls, and ms are left
+abbrev pub LineCut : Lines → Option Part → Lines → Type 0
+LineCut ls None ms = Without lf ls.left.text.now
+LineCut ls (Some l) ms = SplitAt lf ls.left l ms.left
 
 abbrev pub text : Word → List ℕ
 text (Letter t p) = t.now
@@ -30,35 +45,34 @@ abbrev pub kind_told : Word → Option LineKind
 kind_told (Letter t p) = kind_word t.now
 kind_told (Number t p) = None
 
+abbrev pub words_of : Option Part → List (List ℕ)
+words_of None = []
+words_of (Some p) = words p.text.now
+
 -- the words that are left
 abbrev pub left : Words → List (List ℕ)
-left ws = after (drop ws.at ws.line.now)
+left ws = words_of ws.left
 
--- the line lies in a book, and what is left of it in the line
-pub record InBook (ws : Words) : Type 0 where
-  pub within : ws.at ≤ length ws.line.now
-  pub short : ws.place + length ws.line.now ≤ most_bytes
+-- a part of a line is its first word and what is left after the space that ends it
+pub record WordCut (p w : Part) (more : Option Part) : Type 0 where
+  pub cut : words p.text.now ≡ w.text.now ∷ words_of more
+  pub here : w.place ≡ p.place
 
--- w is the first word of the line, which stands at the place, and ws is what is left
+-- w is the first word of the line l, which stands at the place, and ws is what is left
 pub record LetterCut (l : List ℕ) (place : ℕ) (w : Word) (ws : Words) : Type 0 where
   pub cut : words l ≡ text w ∷ left ws
   pub tells : kind_told w ≡ kind_word (text w)
   pub there : place_of w ≡ place
-  pub line : ws.line.now ≡ l
-  pub from : ws.place ≡ place
-  pub lies : InBook ws
 
--- w and ws are a line cut after its first word
-abbrev pub Cut : Word → Words → Type 0
-Cut w ws = LetterCut ws.line.now ws.place w ws
+-- what a line of that first word and those others says
+abbrev pub said : ℕ → Word → Words → Option Content
+said k w ws = if_counted k (content (kind_told w) (numerals (left ws)))
 
--- the next word was taken from ws, and us is what is left
-pub record Taken (ws us : Words) (w : Word) : Type 0 where
+-- the next word w was taken from ws, and us is what is left
+pub record Taken (ws : Words) (w : Word) (us : Words) : Type 0 where
   pub cut : left ws ≡ text w ∷ left us
   pub tells : number_of w ≡ numeral (text w)
-  pub there : place_of w ≡ suc (ws.place + ws.at)
-  pub lies : InBook us
 
-abbrev pub NumberCut : Words → Words → Option Word → Type 0
-NumberCut ws us None = left ws ≡ []
-NumberCut ws us (Some w) = Taken ws us w
+abbrev pub NumberCut : Words → Option Word → Words → Type 0
+NumberCut ws None us = left ws ≡ []
+NumberCut ws (Some w) us = Taken ws w us

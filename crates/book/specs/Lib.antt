@@ -2,7 +2,8 @@ pub mod Accepted
 pub mod Cuts
 pub mod Lines
 pub mod Parsed
-pub mod Puts
 pub mod Reading
+pub mod Saying
 pub mod Steps
+pub mod Texts
 pub mod Written

@@ -1,11 +1,12 @@
 // The lines of a book: a letter that tells the kind of line, and numbers.
 ghost use Rattle.std.specs.Prelude.{◌≡◌, ◌≤◌};
-ghost use Rattle.book.specs.Lines.{kind_word, fewest, most, numerals, formed};
-ghost use Rattle.book.specs.Cuts.{left, InBook, Cut};
+ghost use Rattle.std.specs.Result.{result_ok};
+ghost use Rattle.book.specs.Lines.{kind_of, fewest, most, numerals};
+ghost use Rattle.book.specs.Cuts.{left, place_of, said};
 ghost use Rattle.book.specs.Parsed.{NumbersRead, LineRead, in_range, most_numbers};
 ghost use Rattle.project.specs.Project.{most_resources};
 
-use crate::words::{Word, Words};
+use crate::words::{LF, Part, Word, Words};
 use arrayvec::ArrayVec;
 use project::refusal::Refusal;
 use project::tables::{Kind, MOST_RESOURCES};
@@ -30,21 +31,45 @@ pub(crate) struct Line {
     pub numbers: Numbers,
 }
 
-// The kind that a word tells, if it is one letter.
-pub(crate) fn line_kind(word: &[u8]) -> Option<LineKind>
-    ensures { result ≡ kind_word word.now }
-{
-    let [letter] = word else {
-        return None;
-    };
-    match char::from(*letter) {
-        'C' => Some(LineKind::Capacities),
-        'J' => Some(LineKind::Job),
-        'A' => Some(LineKind::Pairing(Kind::And)),
-        'O' => Some(LineKind::Pairing(Kind::Or)),
-        'B' => Some(LineKind::Pairing(Kind::Bi)),
-        'Z' => Some(LineKind::Trailer),
-        _ => None,
+// The lines that are left of a part of a book in which each ends in LF.
+#[derive(Drop)]
+pub(crate) struct Lines<'a> {
+    pub left: Part<'a>,
+}
+
+impl<'a> Iterator for Lines<'a> {
+    type Item = Part<'a>;
+
+    ghost use Rattle.std.specs.Iterator.{item_count};
+    ghost use Rattle.book.specs.Cuts.{LineCut};
+
+    ghost next_gives = { LineCut };
+
+    ghost remaining = { item_count (λ ls. ls.left.text.now) };
+
+    fn next(&mut self) -> Option<Part<'a>> {
+        let (line, left) = self.left.split_once(LF)?;
+        self.left = left;
+        Some(line)
+    }
+}
+
+// The kind of line that a letter tells.
+impl TryFrom<u8> for LineKind {
+    type Error = ();
+
+    ghost try_from_gives = { λ letter r. result_ok r ≡ kind_of letter };
+
+    fn try_from(letter: u8) -> Result<LineKind, ()> {
+        match char::from(letter) {
+            'C' => Ok(LineKind::Capacities),
+            'J' => Ok(LineKind::Job),
+            'A' => Ok(LineKind::Pairing(Kind::And)),
+            'O' => Ok(LineKind::Pairing(Kind::Or)),
+            'B' => Ok(LineKind::Pairing(Kind::Bi)),
+            'Z' => Ok(LineKind::Trailer),
+            _ => Err(()),
+        }
     }
 }
 
@@ -71,16 +96,15 @@ fn read_numbers(
     most: usize,
     place: usize,
 ) -> Result<Numbers, Refusal>
-    requires within { InBook words }
     requires order { fewest ≤ most }
     requires bound { most ≤ most_numbers }
     ensures { NumbersRead (in_range fewest most (numerals (left words.entry))) place result }
 {
     let mut numbers = Numbers::new();
-    for i in 0..most {
+    while numbers.len() < most {
         let Some(word) = words.next() else {
             // The words run out.
-            if i < fewest {
+            if numbers.len() < fewest {
                 return Err(Refusal::BadForm(place));
             }
             return Ok(numbers);
@@ -103,9 +127,8 @@ pub(crate) fn read_line(
     words: Words<'_>,
     resources: usize,
 ) -> Result<Line, Refusal>
-    requires cut { Cut letter words }
-    requires bound { resources ≤ most_resources }
-    ensures { LineRead (formed resources words.entry.line.now) words.entry.place result }
+    requires { resources ≤ most_resources }
+    ensures { LineRead (said resources letter.entry words.entry) (place_of letter.entry) result }
 {
     let place = letter.place();
     let Some(kind) = letter.kind() else {

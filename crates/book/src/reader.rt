@@ -1,16 +1,17 @@
 // Reading a book into lent tables, line by line.
-ghost use Rattle.std.specs.Prelude.{◌≡◌, ℕ, ◌-◌, ◌≤◌, false, ◌↔◌, List, [], length, take, replicate, if◌then◌else◌, Some, None, Ok, Err};
-ghost use Rattle.project.specs.Project.{Project, within, activity_fits, proper, is_blank, most_activities, most_resources, blank_activity, blank_pair};
+ghost use Rattle.std.specs.Prelude.{◌≡◌, ℕ, ◌-◌, ◌≤◌, false, ◌&&◌, ◌↔◌, List, [], length, replicate, if◌then◌else◌, Some, None, Ok, Err};
+ghost use Rattle.std.specs.List.{suffix_len};
+ghost use Rattle.project.specs.Project.{Project, within, activity_fits, proper, follows, is_blank, most_activities, most_resources, blank_activity, blank_pair};
 ghost use Rattle.project.specs.Refusals.{Refused, refused, answer};
-ghost use Rattle.std.specs.List.{between, suffix_len};
 ghost use Rattle.book.specs.Accepted.{IsBook, Gave, Unread, Framed, sizes};
-ghost use Rattle.book.specs.Lines.{formed, most_bytes};
-ghost use Rattle.book.specs.Reading.{judged, resources_of, not_lf, trailed, trailer, reading, head_answer, activities_after, pairs_after, pair_of};
+ghost use Rattle.book.specs.Lines.{formed};
+ghost use Rattle.book.specs.Parsed.{most_numbers};
+ghost use Rattle.book.specs.Reading.{judged, not_lf, resources_of, padded, activity_of, trailed, trailer, reading, head_answer, activities_after, pairs_after, pair_of};
 ghost use Rattle.book.specs.Written.{written};
-ghost use Rattle.book.specs.Steps.{activity_in, activity_judged, pair_judged, opening, placed, Ready, activity_more, pair_more, Put, Took, KeptSofar, sofar_of, content_in, trailer_told, closing, resources_known, Reads};
+ghost use Rattle.book.specs.Steps.{activity_judged, pair_judged, opening, at_most, Ready, activity_more, pair_more, Put, Took, KeptSofar, sofar_of, content_in, trailer_told, closing, Reads};
 
-use crate::lines::{Line, LineKind, MOST_NUMBERS, Numbers, read_line};
-use crate::words::{LF, Words, find};
+use crate::lines::{Line, LineKind, Lines, read_line};
+use crate::words::{LF, Part, Words};
 use project::refusal::Refusal;
 use project::rules::can_follow;
 use project::tables::{
@@ -29,86 +30,88 @@ struct Trailer {
     count: usize,
 }
 
-// The numbers as bytes, if each is at most the limit in its place.
+// The number, if it is at most the limit.
+fn at_most(limit: u8, number: u32) -> Option<u8>
+    ensures { result ≡ at_most limit number }
+{
+    u8::try_from(number).ok().filter(|byte| *byte <= limit)
+}
+
+// The numbers with zeros after them, if each is at most the limit in its place.
 fn bounded(numbers: &[u32], limits: &[u8; MOST_RESOURCES]) -> Option<[u8; MOST_RESOURCES]>
-    requires { length numbers.now ≡ most_resources }
-    ensures { result ≡ (if within numbers.now limits.now then Some numbers.now else None) }
+    requires { length numbers.now ≤ most_resources }
+    ensures { result ≡ (if within (padded numbers.now) limits.now then Some (padded numbers.now) else None) }
 {
     let mut bytes = [0; MOST_RESOURCES];
-    for k in 0..MOST_RESOURCES {
-        if numbers[k] > limits[k] as u32 {
-            return None;
-        }
-        bytes[k] = numbers[k] as u8;
+    for (k, number) in numbers.iter().enumerate() {
+        bytes[k] = at_most(limits[k], *number)?;
     }
     Some(bytes)
 }
 
 // The activity of a J line, if its duration and demands are within their limits.
-fn activity_of(values: &[u32; MOST_NUMBERS], capacities: &[u8; MOST_RESOURCES]) -> Option<Activity>
-    ensures { result ≡ (if activity_fits capacities.now (activity_in values.now) then Some (activity_in values.now) else None) }
+fn activity_of(numbers: &[u32], capacities: &[u8; MOST_RESOURCES]) -> Option<Activity>
+    requires some { 1 ≤ length numbers.now }
+    requires few { length numbers.now ≤ most_numbers }
+    ensures { result ≡ (if activity_fits capacities.now (activity_of numbers.now) then Some (activity_of numbers.now) else None) }
 {
-    let duration = values[0];
-    if duration > MOST_DURATION as u32 {
-        return None;
-    }
-    let Some(demands) = bounded(&values[1..MOST_NUMBERS], capacities) else {
-        return None;
-    };
+    let (duration, demands) = numbers.split_first()?;
     Some(Activity {
-        duration: duration as u8,
-        demands,
+        duration: at_most(MOST_DURATION, *duration)?,
+        demands: bounded(demands, capacities)?,
     })
 }
 
-// The pair of an A, O or B line, if its numbers are two of so many activities, the lower first.
-fn pair_of(kind: Kind, values: &[u32; MOST_NUMBERS], activities: usize) -> Option<Pair>
+// The pair of an A, O or B line, if its numbers are two of so many activities, the lower first, and it can follow the pairs before it.
+fn pair_of(kind: Kind, numbers: &[u32], activities: usize, before: &[Pair]) -> Option<Pair>
     requires kind { is_blank kind ≡ false }
     requires few { activities ≤ most_activities }
-    ensures { result ≡ (if proper activities (pair_of kind values.now) then Some (pair_of kind values.now) else None) }
+    requires two { length numbers.now ≡ 2 }
+    ensures { result ≡ (if proper activities (pair_of kind numbers.now) && follows before.now (pair_of kind numbers.now) then Some (pair_of kind numbers.now) else None) }
 {
-    let first = values[0];
-    let second = values[1];
-    if first < 1 || first >= second || second as usize > activities {
+    let [first, second] = numbers else {
+        return None;
+    };
+    let first = ActivityNumber::try_from(*first).ok()?;
+    let second = ActivityNumber::try_from(*second).ok()?;
+    if first < 1 || first >= second || usize::from(second) > activities {
         return None;
     }
-    Some(Pair {
+    let pair = Pair {
         kind,
-        first: first as ActivityNumber,
-        second: second as ActivityNumber,
-    })
+        first,
+        second,
+    };
+    can_follow(&pair, before).then_some(pair)
 }
 
-// The head of a project that has the capacities of a C line and nothing else yet.
-fn open_head(numbers: &Numbers, place: usize) -> Result<Head, Refusal>
-    ensures { answer result ≡ placed place (opening numbers.now) }
+// The head of a project that has the capacities of a C line and nothing else yet, if they are within their limit.
+fn open_head(numbers: &[u32]) -> Option<Head>
+    requires { length numbers.now ≤ most_resources }
+    ensures { result ≡ opening numbers.now }
 {
-    let Some(capacities) = bounded(
-        &numbers.values[0..MOST_RESOURCES],
-        &[MOST_CAPACITY; MOST_RESOURCES],
-    ) else {
-        return Err(Refusal::OverLimit(place));
-    };
-    Ok(Head {
+    Some(Head {
         activities: 0,
-        resources: numbers.count,
-        capacities,
+        resources: numbers.len(),
+        capacities: bounded(numbers, &[MOST_CAPACITY; MOST_RESOURCES])?,
         pairs: 0,
     })
 }
 
 fn add_activity(
     head: Head,
-    values: &[u32; MOST_NUMBERS],
+    numbers: &[u32],
     place: usize,
     activities: &mut [Activity],
 ) -> Result<Head, Refusal>
-    ensures { Put (activity_judged head values.now activities.old) place (activity_more head) head.activities activities.old result activities.new }
+    requires some { 1 ≤ length numbers.now }
+    requires few { length numbers.now ≤ most_numbers }
+    ensures { Put (activity_judged head numbers.now activities.old) place (activity_more head) head.activities activities.old result activities.new }
 {
     if head.pairs > 0 {
         return Err(Refusal::OutOfOrder(place));
     }
-    let Some(activity) = activity_of(values, &head.capacities) else {
+    let Some(activity) = activity_of(numbers, &head.capacities) else {
         return Err(Refusal::OverLimit(place));
     };
     let n = head.activities;
@@ -125,22 +128,20 @@ fn add_activity(
 fn add_pair(
     head: Head,
     kind: Kind,
-    values: &[u32; MOST_NUMBERS],
+    numbers: &[u32],
     place: usize,
     pairs: &mut [Pair],
 ) -> Result<Head, Refusal>
     requires kind { is_blank kind ≡ false }
     requires few { head.activities ≤ most_activities }
     requires held { head.pairs ≤ length pairs.old }
-    ensures { Put (pair_judged head kind values.now pairs.old) place (pair_more head) head.pairs pairs.old result pairs.new }
+    requires two { length numbers.now ≡ 2 }
+    ensures { Put (pair_judged head kind numbers.now pairs.old) place (pair_more head) head.pairs pairs.old result pairs.new }
 {
-    let Some(pair) = pair_of(kind, values, head.activities) else {
+    let m = head.pairs;
+    let Some(pair) = pair_of(kind, numbers, head.activities, &pairs[..m]) else {
         return Err(Refusal::BadPair(place));
     };
-    let m = head.pairs;
-    if !can_follow(&pair, &pairs[0..m]) {
-        return Err(Refusal::BadPair(place));
-    }
     if m >= MOST_PAIRS || m >= pairs.len() {
         return Err(Refusal::TooMany(place));
     }
@@ -163,48 +164,29 @@ fn take_line(
     requires kept { KeptSofar sofar activities.old pairs.old }
     ensures { Took (judged (sizes activities.old pairs.old) (sofar_of sofar activities.old pairs.old) (Some (content_in line.now))) place activities.old pairs.old result activities.new pairs.new }
 {
+    let numbers = line.numbers.as_slice();
     match (sofar, line.kind) {
-        (None, LineKind::Capacities) => open_head(&line.numbers, place),
-        (Some(head), LineKind::Job) => add_activity(head, &line.numbers.values, place, activities),
-        (Some(head), LineKind::Pairing(kind)) => add_pair(
-            head,
-            kind,
-            &line.numbers.values,
-            place,
-            pairs,
-        ),
+        (None, LineKind::Capacities) => open_head(numbers).ok_or(Refusal::OverLimit(place)),
+        (Some(head), LineKind::Job) => add_activity(head, numbers, place, activities),
+        (Some(head), LineKind::Pairing(kind)) => add_pair(head, kind, numbers, place, pairs),
         _ => Err(Refusal::OutOfOrder(place)),
     }
 }
 
-// How many resources the lines so far give.
-fn resources_of(sofar: Option<Head>) -> usize
-    ensures { result ≡ resources_known sofar }
-{
-    match sofar {
-        Some(head) => head.resources,
-        None => 0,
-    }
-}
-
-// Reads the line between two places of the book, and takes it into the tables.
+// Reads a line of the book, and takes it into the tables.
 fn read_one(
-    book: &[u8],
-    at: usize,
-    end: usize,
+    line: Part<'_>,
     sofar: Option<Head>,
     activities: &mut [Activity],
     pairs: &mut [Pair],
 ) -> Result<Head, Refusal>
-    requires order { at ≤ end }
-    requires within { end ≤ length book.now }
-    requires short { length book.now ≤ most_bytes }
-    requires kept { KeptSofar sofar activities.old pairs.old }
-    ensures { Took (judged (sizes activities.old pairs.old) (sofar_of sofar activities.old pairs.old) (formed (resources_of (sofar_of sofar activities.old pairs.old)) (between at end book.now))) at activities.old pairs.old result activities.new pairs.new }
+    requires { KeptSofar sofar activities.old pairs.old }
+    ensures { Took (judged (sizes activities.old pairs.old) (sofar_of sofar activities.old pairs.old) (formed (resources_of (sofar_of sofar activities.old pairs.old)) line.entry.text.now)) line.entry.place activities.old pairs.old result activities.new pairs.new }
 {
-    let (letter, words) = Words::first(&book[at..end], at);
-    let line = read_line(letter, words, resources_of(sofar))?;
-    take_line(sofar, &line, at, activities, pairs)
+    let (letter, words) = Words::first(line);
+    let resources = sofar.map_or(0, |head| head.resources);
+    let said = read_line(letter, words, resources)?;
+    take_line(sofar, &said, line.place, activities, pairs)
 }
 
 // The last step: the trailer counts the lines, and there is an activity.
@@ -217,28 +199,17 @@ fn close(sofar: Option<Head>, count: usize, trailer: &Trailer) -> Result<Head, R
     }
 }
 
-// Where the line starts that ends at `end`: after the last LF before it.
-fn line_start(book: &[u8], end: usize) -> usize
-    requires { end ≤ length book.now }
-    ensures { result ≡ end - suffix_len not_lf (take end book.now) }
-{
-    let mut at = end;
-    while at > 0 && book[at - 1] != LF {
-        at -= 1;
-    }
-    at
-}
-
 // What the last line says, if it is a right trailer that points to the start of a line.
 fn point(book: &[u8], place: usize, line: &Line) -> Option<Trailer>
-    requires { place ≤ length book.now }
-    ensures { trailer_told result ≡ trailed book.now place line.now.kind line.now.numbers.values }
+    requires within { place ≤ length book.now }
+    requires ready { Ready line.now }
+    ensures { trailer_told result ≡ trailed book.now place line.now.kind line.now.numbers.items }
 {
-    let LineKind::Trailer = line.kind else {
+    let (LineKind::Trailer, [start, count]) = (line.kind, line.numbers.as_slice()) else {
         return None;
     };
-    let start = line.numbers.values[0] as usize;
-    let count = line.numbers.values[1] as usize;
+    let start = *start as usize;
+    let count = *count as usize;
     if start > place || (start > 0 && book[start - 1] != LF) {
         return None;
     }
@@ -249,18 +220,32 @@ fn point(book: &[u8], place: usize, line: &Line) -> Option<Trailer>
     })
 }
 
+// Where the last line starts: after the last LF, if there is one.
+fn line_start(lines: &[u8]) -> usize
+    ensures value { result ≡ length lines.now - suffix_len not_lf lines.now }
+    ensures within { result ≤ length lines.now }
+{
+    match lines.iter().rposition(|b| *b == LF) {
+        Some(at) => at + 1,
+        None => 0,
+    }
+}
+
 fn find_trailer(book: &[u8]) -> Option<Trailer>
     ensures { trailer_told result ≡ trailer book.now }
 {
-    let len = book.len();
-    if len == 0 || len > MOST_BYTES || book[len - 1] != LF {
-        return None;
-    }
-    let place = line_start(book, len - 1);
-    let (letter, words) = Words::first(&book[place..len - 1], place);
-    let Ok(line) = read_line(letter, words, 0) else {
+    let [lines @ .., LF] = book else {
         return None;
     };
+    if book.len() > MOST_BYTES {
+        return None;
+    }
+    let place = line_start(lines);
+    let (letter, words) = Words::first(Part {
+        text: &lines[place..],
+        place,
+    });
+    let line = read_line(letter, words, 0).ok()?;
     point(book, place, &line)
 }
 
@@ -274,14 +259,14 @@ fn read_body(
     requires { trailer book.now ≡ trailer_told (Some last.now) }
     ensures { Reads (reading (sizes activities.old pairs.old) book.now) activities.old pairs.old result activities.new pairs.new }
 {
+    let body = Part {
+        text: &book[last.start..last.place],
+        place: last.start,
+    };
     let mut sofar = None;
-    let mut at = last.start;
     let mut count = 0;
-    while at < last.place {
-        let end = find(LF, book, at);
-        let head = read_one(book, at, end, sofar, activities, pairs)?;
-        sofar = Some(head);
-        at = end + 1;
+    for line in (Lines { left: body }) {
+        sofar = Some(read_one(line, sofar, activities, pairs)?);
         count += 1;
     }
     close(sofar, count, last)
@@ -300,15 +285,6 @@ fn read_project(
     read_body(book, &trailer, activities, pairs)
 }
 
-// Puts the zeroed record into every place of a table.
-fn clear<T: Copy>(table: &mut [T], zeroed: T)
-    ensures { table.new ≡ replicate (length table.old) zeroed }
-{
-    for place in table.iter_mut() {
-        *place = zeroed;
-    }
-}
-
 // Reads a book into the lent tables. Accepted, the first records of the tables are the project's and the others are as
 // they were. Refused, both tables are blank.
 pub fn read(book: &[u8], activities: &mut [Activity], pairs: &mut [Pair]) -> Result<Head, Refusal>
@@ -322,8 +298,8 @@ pub fn read(book: &[u8], activities: &mut [Activity], pairs: &mut [Pair]) -> Res
 {
     let answer = read_project(book, activities, pairs);
     if answer.is_err() {
-        clear(activities, Activity::blank());
-        clear(pairs, Pair::blank());
+        activities.fill(Activity::blank());
+        pairs.fill(Pair::blank());
     }
     answer
 }

@@ -1,10 +1,8 @@
 // The words of a line: each is a part of the book, with its place.
-ghost use Rattle.std.specs.Prelude.{◌≡◌, ◌+◌, ◌≤◌, length, drop};
-ghost use Rattle.std.specs.List.{prefix_len};
-ghost use Rattle.book.specs.Lines.{numeral, most_bytes};
-ghost use Rattle.book.specs.Cuts.{other, LetterCut, NumberCut, InBook, place_of, number_of, kind_told};
+ghost use Rattle.std.specs.Prelude.{◌≡◌, ◌+◌, ◌≤◌, length};
+ghost use Rattle.book.specs.Lines.{is_numeral, numeral, most_bytes};
 
-use crate::lines::{LineKind, line_kind};
+use crate::lines::LineKind;
 
 // The byte that ends a line.
 pub(crate) const LF: u8 = b'\n';
@@ -15,6 +13,14 @@ pub(crate) const SPACE: u8 = b' ';
 // The most digits of a number.
 pub(crate) const MOST_DIGITS: usize = 5;
 
+// A part of a book, with its place there.
+#[derive(Clone, Copy)]
+pub(crate) struct Part<'a> {
+    pub text: &'a [u8],
+    pub place: usize,
+    pub ghost in_book: { place + length text.now ≤ most_bytes },
+}
+
 // A part of a line between its spaces, with its place in the book.
 #[derive(Clone, Copy)]
 pub(crate) enum Word<'a> {
@@ -24,54 +30,73 @@ pub(crate) enum Word<'a> {
     Number(&'a [u8], usize),
 }
 
-// What is left of a line after the words that were taken: nothing, or a space and more.
-#[derive(Clone, Copy)]
+// What is left of a line after the words that were taken: nothing, or what stands after a space.
+#[derive(Drop)]
 pub(crate) struct Words<'a> {
-    line: &'a [u8],
-    place: usize,
-    at: usize,
+    left: Option<Part<'a>>,
 }
 
-// The first place from `from` on at which the byte stands, or the length.
-pub(crate) fn find(byte: u8, text: &[u8], from: usize) -> usize
-    requires { from ≤ length text.now }
-    ensures value { result ≡ from + prefix_len (other byte) (drop from text.now) }
-    ensures low { from ≤ result }
-    ensures high { result ≤ length text.now }
-{
-    for i in from..text.len() {
-        if text[i] == byte {
-            return i;
+impl<'a> Part<'a> {
+    ghost use Rattle.book.specs.Cuts.{SplitOnce, WordCut};
+
+    // The part before the first such byte, and the part after it.
+    pub(crate) fn split_once(self, byte: u8) -> Option<(Part<'a>, Part<'a>)>
+        ensures { SplitOnce byte self.entry result }
+    {
+        let end = self.text.iter().position(|b| *b == byte)?;
+        let (front, rest) = self.text.split_at(end);
+        Some((
+            Part {
+                text: front,
+                place: self.place,
+            },
+            Part {
+                text: &rest[1..],
+                place: self.place + end + 1,
+            },
+        ))
+    }
+
+    // The first word of a line, and what is left after the space that ends it.
+    fn split_word(self) -> (Part<'a>, Option<Part<'a>>)
+        ensures { WordCut self.entry result.0 result.1 }
+    {
+        match self.split_once(SPACE) {
+            Some((word, left)) => (word, Some(left)),
+            None => (self, None),
         }
     }
-    text.len()
 }
 
-// The number that a word writes, if it is one to five digits with no needless zero.
-pub(crate) fn numeral(word: &[u8]) -> Option<u32>
-    ensures { result ≡ numeral word.now }
+// Whether a word is one to five digits, with no needless zero.
+fn is_numeral(word: &[u8]) -> bool
+    ensures { result ≡ is_numeral word.now }
 {
     if word.is_empty() || word.len() > MOST_DIGITS || (word[0] == b'0' && word.len() > 1) {
+        return false;
+    }
+    word.iter().all(|b| b.is_ascii_digit())
+}
+
+// The number that a word writes, if it is a numeral: `parse` alone would read a sign and needless zeros.
+fn numeral(word: &[u8]) -> Option<u32>
+    ensures { result ≡ numeral word.now }
+{
+    if !is_numeral(word) {
         return None;
     }
-    let mut value: u32 = 0;
-    for digit in word {
-        if !digit.is_ascii_digit() {
-            return None;
-        }
-        value = value * 10 + (*digit - b'0') as u32;
-    }
-    Some(value)
+    str::from_utf8(word).ok()?.parse().ok()
 }
 
 impl Word<'_> {
+    ghost use Rattle.book.specs.Cuts.{place_of, number_of, kind_told};
+
     // Where in the book the word stands.
     pub(crate) fn place(self) -> usize
         ensures { result ≡ place_of self.entry }
     {
         match self {
-            Word::Letter(_, place) => place,
-            Word::Number(_, place) => place,
+            Word::Letter(_, place) | Word::Number(_, place) => place,
         }
     }
 
@@ -90,41 +115,37 @@ impl Word<'_> {
         ensures { result ≡ kind_told self.entry }
     {
         match self {
-            Word::Letter(text, _) => line_kind(text),
-            Word::Number(_, _) => None,
+            Word::Letter([letter], _) => LineKind::try_from(*letter).ok(),
+            _ => None,
         }
     }
 }
 
 impl<'a> Words<'a> {
-    // The first word of a line that stands at the place, and what is left of the line.
-    pub(crate) fn first(line: &'a [u8], place: usize) -> (Word<'a>, Words<'a>)
-        requires { place + length line.now ≤ most_bytes }
-        ensures { LetterCut line.now place result.0 result.1 }
-    {
-        let end = find(SPACE, line, 0);
-        (
-            Word::Letter(&line[0..end], place),
-            Words {
-                line,
-                place,
-                at: end,
-            },
-        )
-    }
+    ghost use Rattle.book.specs.Cuts.{LetterCut};
 
-    // The next word, if there is one.
-    pub(crate) fn next(&mut self) -> Option<Word<'a>>
-        requires { InBook self.old }
-        ensures { NumberCut self.old self.new result }
+    // The first word of a line, and what is left of the line.
+    pub(crate) fn first(line: Part<'a>) -> (Word<'a>, Words<'a>)
+        ensures { LetterCut line.entry.text.now line.entry.place result.0 result.1 }
     {
-        let line = self.line;
-        let at = self.at;
-        if at == line.len() {
-            return None;
-        }
-        let end = find(SPACE, line, at + 1);
-        self.at = end;
-        Some(Word::Number(&line[at + 1..end], self.place + at + 1))
+        let (word, left) = line.split_word();
+        (Word::Letter(word.text, word.place), Words { left })
+    }
+}
+
+impl<'a> Iterator for Words<'a> {
+    type Item = Word<'a>;
+
+    ghost use Rattle.std.specs.Iterator.{item_count};
+    ghost use Rattle.book.specs.Cuts.{NumberCut, left};
+
+    ghost next_gives = { NumberCut };
+
+    ghost remaining = { item_count left };
+
+    fn next(&mut self) -> Option<Word<'a>> {
+        let (word, left) = self.left?.split_word();
+        self.left = left;
+        Some(Word::Number(word.text, word.place))
     }
 }

@@ -1,13 +1,11 @@
-use Rattle.std.proofs.Common.{not, ap, arith, eq-eqb, ne_eqb}
-use Rattle.std.proofs.lemmas.List.Sums.{suffix_len-take_yes, suffix_len-take_no}
+use Rattle.std.proofs.Common.{rules}
 use Rattle.book.specs.Reading.{not_lf}
+use Rattle.book.proofs.Cutting.{after_last, none_fails}
 use Rattle.book.proofs.reader.line_start.Goals as goal
 
-pub loop-at-preserved : goal.loop-at-preserved
-loop-at-preserved c =
-    let e = suffix_len-take_yes not_lf c.args.book.now c.loop-at.at 0 c.loop-at-test.true (omega arith) (ap not (ne_eqb _ _ c.if-book-at-ne-LF.true)) in
-    (omega arith, omega arith)
+pub returns-in-Some-clause-value : goal.returns-in-Some-clause-value
+returns-in-Some-clause-value c =
+    after_last not_lf c.args.lines.now c.in-Some.at (search rules) (search rules) (λ k a b. search rules)
 
-pub returns-else-book-at-ne-LF : goal.returns-else-book-at-ne-LF
-returns-else-book-at-ne-LF c =
-    omega (arith, suffix_len-take_no not_lf c.args.book.now c.loop-at.at 0 c.loop-at-test.true (omega arith) (ap not (eq-eqb _ _ c.if-book-at-ne-LF.false)))
+pub returns-in-None-clause-value : goal.returns-in-None-clause-value
+returns-in-None-clause-value c = none_fails not_lf c.args.lines.now (λ k a. search rules)

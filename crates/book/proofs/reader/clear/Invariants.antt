@@ -1,5 +1,0 @@
-use Rattle.std.proofs.Common.{◌≡◌, take, replicate}
-use Rattle.book.proofs.reader.clear.Given as goal
-
-abbrev pub invariant-loop-place : goal.invariant-loop-place
-invariant-loop-place g l = take l.place-index l.table ≡ replicate l.place-index l.zeroed

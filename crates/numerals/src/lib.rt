@@ -14,12 +14,11 @@ pub fn number_length<I: Integer>(number: I) -> usize
     Buffer::new().format(number).len()
 }
 
-// Lent bytes, and the place in them up to which they are written.
+// Lent bytes, and the place in them up to which they are written. It may be any place: past the end there is no room.
 #[derive(Drop)]
 pub struct Page<'a> {
     pub bytes: &'a mut [u8],
     pub at: usize,
-    ghost within: { at ≤ length bytes.now },
 }
 
 impl<'a> Page<'a> {
@@ -37,7 +36,7 @@ impl<'a> Page<'a> {
         ensures same_reference { self.new.bytes.ghost_name ≡ self.old.bytes.ghost_name }
         ensures put { PutIfRoom self.old.bytes.now self.new.bytes.now self.old.at self.new.at piece.now }
     {
-        if piece.len() > self.bytes.len() - self.at {
+        if self.at > self.bytes.len() || piece.len() > self.bytes.len() - self.at {
             return;
         }
         let end = self.at + piece.len();

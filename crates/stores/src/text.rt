@@ -6,7 +6,7 @@ ghost use Rattle.stores.specs.Texts.{spaced, text_script};
 ghost use Rattle.stores.specs.TextLegible.{text_legible};
 
 use crate::spelling::Spelling;
-use crate::store::Store;
+use crate::store::{Store, StoreBatch};
 use numerals::{number_length, write_byte, write_number};
 
 // In bytes a clause is a line, and blank bytes are 0.
@@ -14,6 +14,8 @@ use numerals::{number_length, write_byte, write_number};
 pub struct Text;
 
 pub type TextSink = Store<Text>;
+
+pub type TextBatch = StoreBatch<Text>;
 
 impl Spelling for Text {
     type Element = u8;

@@ -1,9 +1,10 @@
-use Rattle.std.proofs.Common.{arith, w32}
-use Rattle.std.proofs.lemmas.Int.{to_z-of_z}
+use Rattle.std.proofs.Common.{arith, rules}
+use Rattle.std.specs.Fmt.{signed_decimal}
+use Rattle.numerals.specs.Puts.{PutIfRoom}
 use Rattle.numerals.proofs.Writing.{put_then}
 use Rattle.stores.proofs.text.write_literal.Goals as goal
 
 pub returns : goal.returns
 returns c =
-    let number = rw (to_z-of_z w32 c.args.literal c.ranges.literal) at c.write_number.ensures in
+    let number : PutIfRoom c.write_byte-digits.new.out c.write_number.new.out c.write_byte-digits.result c.write_number.result (signed_decimal c.args.literal) = search rules in
     put_then (omega arith) (c.write_byte-digits.ensures.room (omega arith)) number

@@ -11,7 +11,10 @@ use sinks::judge::Judge;
 use stores::spelling::Spelling;
 use stores::store::Store;
 
-pub fn run_store<S: Spelling>(memory: Vec<S::Element>, clauses: &[&[i32]]) -> (Result<(), Refusal>, Vec<S::Element>)
+pub fn run_store<S: Spelling>(
+    memory: Vec<S::Element>,
+    clauses: &[&[i32]],
+) -> (Result<(), Refusal>, Vec<S::Element>)
     ensures answer { verdict result.0 ≡ taking_all (held clauses.now) (spelled_cost S.script) 0 (vec_len memory) }
     ensures memory { Held S.script (vec_len memory) (held clauses.now) result.0 result.1.items }
 {

@@ -12,7 +12,7 @@ use Rattle.sinks.specs.Clauses.{meets, meets_all}
 use Rattle.sinks.specs.Meanings.{Meaning, Fixed, Unchanged, Added, is_open, standing}
 use Rattle.sinks.specs.Calls.{Does, Open, Add, Keep, Strike, Settled, Appended, Reverted, Untouched, accepted, no, verdict, taking}
 use Rattle.sinks.specs.Batches.{Stops, AddedAll, Opens, Adds, Keeps, Strikes, Appends, KeepsWhole, StrikesWhole, means, costs, first}
-use Rattle.sinks.proofs.Alike.{batch_trans, open_alike, none_alike, fixed_trans, unchanged_refl}
+use Rattle.sinks.proofs.Alike.{batch_trans, open_alike, none_alike, fixed_trans}
 use Rattle.sinks.proofs.Verdicts.{accepted≢refused, passes, avoids, stops_first, taking_accepted, takes_after, takes_same}
 
 -- Two lists in a row.

@@ -100,7 +100,7 @@ impl<'a> Sink for Judge<'a> {
     }
 }
 
-// Whether the assignment makes a variable true.
+// Whether the assignment makes a variable true. There is no variable 0, so what this says of it matters to nobody.
 fn value(values: &[u8], variable: usize) -> bool
     ensures { result ≡ given values.now variable }
 {

@@ -264,44 +264,43 @@ module _ {A : Type 0} (s : Script A) (legible : Legible s) where
         let whole = is ∙ ap (λ n. take n m ++ replicate (length m - at) s.blank) front ∙ ap (λ n. opening_part m l ++ replicate n s.blank) rest in
         subst (λ n. Leaves s (closing (stored s m l)) Struck Reverted m m' l n) (sym h.does) (strikes_all m' whole h.answers)
 
--- The same, over a vector whose part from the end of what was in use, or to it, was lent as a slice and comes back as `part`. A memory is shorter than
--- the largest number, so that a price which is cut off there is still the length.
+-- The same, over a vector of which the part that is added, or taken back, was lent as a slice and comes back as `part`. A memory is shorter than the
+-- largest number, so that a length which is cut off there is refused as the whole length is.
 
-module _ {A Z : Type 0} (s : Script A) (legible : Legible s) (v : Vec A Z) (lent part : List A) (value : lent ≡ vec_items v) (l l' : Ledger) (sd : Sound s (vec_items v) l) (size was now : ℕ) (whole : size ≡ vec_len v) (before : was ≡ l.tally.free) (after : now ≡ l'.tally.free) where
+module _ {A Z : Type 0} (s : Script A) (legible : Legible s) (v : Vec A Z) (lent part : List A) (value : lent ≡ vec_items v) (l l' : Ledger) (sd : Sound s (vec_items v) l) (size room : ℕ) (whole : size ≡ vec_len v) (before : room ≡ l.tally.free) where
   refills : (w : List A) → length w ≡ length lent → vec_items (with_items v w) ≡ w
   refills w same = let lens = v.ok.0 in let long = ap length value in with_items_is v w (omega arith)
 
   pub adds_in : (c : List ℤ) (n : ℕ) (p : Option ℕ) → n ≡ min (length (s.spell c)) (2 ^ 64 - 1) → p ≡ price c n → Ends {A = Unit {0}} (Ok tt) (may_charge p l) (l' ≡ charged p l) (l' ≡ l) → part ≡ s.spell c
-      → Leaves s (adding c (stored s (vec_items v) l)) (Added c) (Appended c) (vec_items v) (vec_items (with_items v (put_mid (size - was) ((size - now) - (size - was)) lent part))) l l'
+      → Leaves s (adding c (stored s (vec_items v) l)) (Added c) (Appended c) (vec_items v) (vec_items (with_items v (put_mid (size - room) ((size - room + n) - (size - room)) lent part))) l l'
   adds_in c n p long priced h is =
       let lens = v.ok in
       let small = v.small in
       let grew = sd.grew in
       let k = length (s.spell c) in
       let paid = ledgers.charges c n l (h.answers ∙ ap (λ q. may_charge q l) priced) in
-      let room = paid.room in
+      let left = paid.room in
       let fits : n ≡ k = omega arith in
-      let left = ap (λ (x : Ledger). x.tally.free) (h.does ∙ ap (λ q. charged q l) priced ∙ paid.ledger) in
       let same_length = ap length value in
-      let w = put_mid-paste (size - was) ((size - now) - (size - was)) lent part (s.spell c) k is (omega arith) refl in
-      let same = ap length w ∙ length-paste lent (size - was) (s.spell c) k (omega arith) (omega arith) in
-      adds s legible (vec_items v) l sd c p (size - was) _ l' (priced ∙ ap (price c) fits) h (omega arith) (refills _ same ∙ w ∙ ap (λ d. paste d (size - was) (s.spell c) k) value)
+      let w = put_mid-paste (size - room) ((size - room + n) - (size - room)) lent part (s.spell c) k is (omega arith) refl in
+      let same = ap length w ∙ length-paste lent (size - room) (s.spell c) k (omega arith) (omega arith) in
+      adds s legible (vec_items v) l sd c p (size - room) _ l' (priced ∙ ap (price c) fits) h (omega arith) (refills _ same ∙ w ∙ ap (λ d. paste d (size - room) (s.spell c) k) value)
 
-  pub strikes_in : Ends {A = Unit {0}} (Ok tt) (may_close l) (l' ≡ restored l) (l' ≡ l) → part ≡ replicate (length (take ((size - was) - (size - now)) (drop (size - now) lent))) s.blank
-      → Leaves s (closing (stored s (vec_items v) l)) Struck Reverted (vec_items v) (vec_items (with_items v (put_mid (size - now) ((size - was) - (size - now)) lent part))) l l'
-  strikes_in h is =
+  pub strikes_in : (now : ℕ) → now ≡ l'.tally.free → Ends {A = Unit {0}} (Ok tt) (may_close l) (l' ≡ restored l) (l' ≡ l) → part ≡ replicate (length (take ((size - room) - (size - now)) (drop (size - now) lent))) s.blank
+      → Leaves s (closing (stored s (vec_items v) l)) Struck Reverted (vec_items v) (vec_items (with_items v (put_mid (size - now) ((size - room) - (size - now)) lent part))) l l'
+  strikes_in now after h is =
       let lens = v.ok in
       let grew = sd.grew in
       let back = ap (λ (x : Ledger). x.tally.free) h.does in
       let long = ap length value in
-      let n = (size - was) - (size - now) in
+      let n = (size - room) - (size - now) in
       let mid = length-take-le n (drop (size - now) lent) (simp length-drop (omega arith)) in
       let z = replicate n s.blank in
       let blank = length-replicate n s.blank in
       let w = put_mid-paste (size - now) n lent part z n (is ∙ ap (λ k. replicate k s.blank) mid) refl (omega arith) in
       let same = ap length w ∙ length-paste lent (size - now) z n (omega arith) (omega arith) in
-      let ends : size - was ≡ length (vec_items v) - l.tally.free = omega arith in
-      let to : size - now + n ≡ size - was = omega arith in
+      let ends : size - room ≡ length (vec_items v) - l.tally.free = omega arith in
+      let to : size - now + n ≡ size - room = omega arith in
       strikes s legible (vec_items v) l sd (size - now) _ l' h (omega arith)
       (refills _ same ∙ w ∙ ap (λ d. paste d (size - now) z n) value ∙ ap (λ x. (take (size - now) (vec_items v) ++ x) ++ drop (size - now + n) (vec_items v)) (take_all n z (omega arith)) ∙ ap (λ k. (take (size - now) (vec_items v) ++ z) ++ drop k (vec_items v)) to
-      ∙ blanked s legible (vec_items v) l sd (size - now) (size - was) ends (omega arith) (omega arith))
+      ∙ blanked s legible (vec_items v) l sd (size - now) (size - room) ends (omega arith) (omega arith))

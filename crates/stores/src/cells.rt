@@ -3,13 +3,15 @@ ghost use Rattle.stores.specs.Cells.{cell_script};
 ghost use Rattle.stores.specs.CellsLegible.{cells_legible};
 
 use crate::spelling::Spelling;
-use crate::store::Store;
+use crate::store::{Store, StoreBatch};
 
 // In 32-bit cells a clause is its literals, then 0, and blank cells are 0.
 #[derive(Drop)]
 pub struct Cells;
 
 pub type CellSink = Store<Cells>;
+
+pub type CellBatch = StoreBatch<Cells>;
 
 impl Spelling for Cells {
     type Element = i32;

@@ -76,11 +76,10 @@ impl<S: Spelling> Sink for Store<S> {
     }
 
     fn add(&mut self, clause: &[i32]) -> Result<(), Refusal> {
-        let size = self.memory.len();
-        let start = size - self.ledger.room();
-        self.ledger.charge(price(clause, S::length(clause)))?;
-        let end = size - self.ledger.room();
-        S::write(&mut self.memory[start..end], clause);
+        let start = self.memory.len() - self.ledger.room();
+        let length = S::length(clause);
+        self.ledger.charge(price(clause, length))?;
+        S::write(&mut self.memory[start..start + length], clause);
         Ok(())
     }
 

@@ -4,7 +4,7 @@ ghost use Rattle.stores.specs.Texts.{spaced, text_script};
 ghost use Rattle.stores.specs.TextLegible.{text_legible};
 
 use crate::spelling::Spelling;
-use crate::store::Store;
+use crate::store::{Store, StoreBatch};
 use numerals::{Page, number_length};
 
 // In bytes a clause is a line, and blank bytes are 0.
@@ -12,6 +12,8 @@ use numerals::{Page, number_length};
 pub struct Text;
 
 pub type TextSink = Store<Text>;
+
+pub type TextBatch = StoreBatch<Text>;
 
 impl Spelling for Text {
     type Element = u8;

@@ -1,24 +1,16 @@
 -- A line read and then taken into the tables. Assumes nothing.
-use Rattle.std.proofs.Common.{◌≡◌, ℕ, ◌≤◌, true, List, length, Some, Result, sym, refl, subst, arith}
-use Rattle.project.specs.Project.{most_resources}
-use Rattle.project.specs.declared.refusal.Refusal.{Refusal}
+use Rattle.std.proofs.Common.{◌≡◌, ℕ, ◌≤◌, true, List, length, Some, Ok, Err, Result, refl, subst, arith}
+use Rattle.project.specs.Project.{Project, head_of, most_resources}
+use Rattle.project.specs.declared.tables.Activity.{Activity}
+use Rattle.project.specs.declared.tables.Head.{Head}
 use Rattle.project.specs.declared.tables.Kind.TheVariants.{Blank, And, Or, Bi}
+use Rattle.project.specs.declared.tables.Pair.{Pair}
 use Rattle.book.specs.declared.lines.Line.{Line}
 use Rattle.book.specs.declared.lines.LineKind.{LineKind}
 use Rattle.book.specs.declared.lines.LineKind.TheVariants.{Capacities, Job, Pairing, Trailer}
-use Rattle.book.specs.declared.words.Word.{Word}
-use Rattle.book.specs.declared.words.Words.{Words}
-use Rattle.book.specs.Cuts.{LetterCut, place_of, said}
 use Rattle.book.specs.Lines.{fewest, most, formed}
-use Rattle.book.specs.Parsed.{LineRead}
-use Rattle.book.specs.Steps.{content_in, lettered, Ready}
-use Rattle.book.proofs.Numbering.{formed_said}
+use Rattle.book.specs.Steps.{Kept, content_in, lettered, Ready, Took}
 use Rattle.book.proofs.Spelling.{formed_says}
-
--- What is read of a line that was cut into words is what the line says.
-pub read_cut : (k : ℕ) (l : List ℕ) (place : ℕ) (w : Word) (ws : Words) → LetterCut l place w ws → (r : Result Line Refusal) → LineRead (said k w ws) (place_of w) r → LineRead (formed k l) place r
-read_cut k l place w ws c r h =
-    subst (λ o. LineRead o place r) (sym (formed_said k l place w ws c)) (subst (λ n. LineRead (said k w ws) n r) c.there h)
 
 has_letter : (k : LineKind) → (k ≡ Pairing Blank → ⊥) → lettered k ≡ true
 has_letter Capacities h = refl
@@ -40,3 +32,10 @@ line_ready k text l b is =
     let says = formed_says k text (content_in l) is in
     let range = within_range k l.kind (length l.numbers.items) b says.2 says.3 in
     record { lettered = has_letter l.kind says.0.lettered; enough = range.0; few = range.1 }
+
+-- the head that a line gives is within the limits, and the tables have its records
+pub took_kept : (j : Result Project ℕ) (place : ℕ) (acts : List Activity) (ps : List Pair) (h : Head) (acts' : List Activity) (ps' : List Pair) → Took j place acts ps (Ok h) acts' ps' → Kept (Some h) acts' ps'
+took_kept (Ok p) place acts ps h acts' ps' took =
+    let same : head_of p ≡ h = cc took.0 in
+    subst (λ x. Kept (Some x) acts' ps') same took.3
+took_kept (Err n) place acts ps h acts' ps' took = let z : ◌≡◌ {A = ℕ} 0 1 = cc took in absurd (omega arith)

@@ -6,3 +6,4 @@ pub mod Puts
 pub mod Reading
 pub mod Steps
 pub mod Written
+pub mod Took

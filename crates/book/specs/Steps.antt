@@ -19,16 +19,24 @@ abbrev pub sofar_of : Option Head → List Activity → List Pair → Sofar
 sofar_of None acts ps = None
 sofar_of (Some h) acts ps = Some (project_of h acts ps)
 
--- the tables have the head's records, and the head is within the limits
-pub record Kept (h : Head) (acts : List Activity) (ps : List Pair) : Type 0 where
-  pub activities : h.activities ≤ length acts
-  pub pairs : h.pairs ≤ length ps
-  pub few : h.activities ≤ most_activities
-  pub resources : h.resources ≤ most_resources
+abbrev pub activities_known : Option Head → ℕ
+activities_known None = 0
+activities_known (Some h) = h.activities
 
-abbrev pub KeptSofar : Option Head → List Activity → List Pair → Type 0
-KeptSofar None acts ps = Unit {0}
-KeptSofar (Some h) acts ps = Kept h acts ps
+abbrev pub pairs_known : Option Head → ℕ
+pairs_known None = 0
+pairs_known (Some h) = h.pairs
+
+abbrev pub resources_known : Option Head → ℕ
+resources_known None = 0
+resources_known (Some h) = h.resources
+
+-- the tables have the head's records, and the head is within the limits
+pub record Kept (s : Option Head) (acts : List Activity) (ps : List Pair) : Type 0 where
+  pub activities : activities_known s ≤ length acts
+  pub pairs : pairs_known s ≤ length ps
+  pub few : activities_known s ≤ most_activities
+  pub resources : resources_known s ≤ most_resources
 
 abbrev pub content_in : Line → Content
 content_in l = record { kind = l.kind; numbers = l.numbers.items }
@@ -74,7 +82,7 @@ Put (Err n) place h i xs r ys = (answer r ≡ Err (refused n place)) × (ys ≡ 
 
 -- the tables hold the project p, and r is its head; or the line was refused
 abbrev pub Took : Result Project ℕ → ℕ → List Activity → List Pair → Result Head Refusal → List Activity → List Pair → Type 0
-Took (Ok p) place acts ps r acts' ps' = (r ≡ Ok (head_of p)) × (acts' ≡ filled p.activities acts) × (ps' ≡ filled p.pairs ps) × Kept (head_of p) acts' ps'
+Took (Ok p) place acts ps r acts' ps' = (r ≡ Ok (head_of p)) × (acts' ≡ filled p.activities acts) × (ps' ≡ filled p.pairs ps) × Kept (Some (head_of p)) acts' ps'
 Took (Err n) place acts ps r acts' ps' = answer r ≡ Err (refused n place)
 
 abbrev pub trailer_told : Option Found → Option Trailed

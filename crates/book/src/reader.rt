@@ -8,7 +8,7 @@ ghost use Rattle.book.specs.Lines.{formed};
 ghost use Rattle.book.specs.Parsed.{most_numbers};
 ghost use Rattle.book.specs.Reading.{judged, not_lf, resources_of, padded, activity_of, trailed, trailer, reading, head_answer, activities_after, pairs_after, pair_of};
 ghost use Rattle.book.specs.Written.{written};
-ghost use Rattle.book.specs.Steps.{activity_judged, pair_judged, opening, at_most, Ready, activity_more, pair_more, Put, Took, KeptSofar, sofar_of, content_in, trailer_told, closing, Reads};
+ghost use Rattle.book.specs.Steps.{activity_judged, pair_judged, opening, at_most, Ready, activity_more, pair_more, Put, Took, Kept, resources_known, content_in, trailer_told, closing, Reads};
 
 use crate::lines::{Line, LineKind, Lines, read_line};
 use crate::words::{LF, Part, Words};
@@ -28,6 +28,15 @@ struct Trailer {
     place: usize,
     start: usize,
     count: usize,
+}
+
+// What the lines so far give: a head, of which there is none before the C line, and its records in the lent tables.
+#[derive(Drop)]
+struct Reader<'t> {
+    sofar: Option<Head>,
+    activities: &'t mut [Activity],
+    pairs: &'t mut [Pair],
+    ghost kept: { Kept sofar activities.now pairs.now },
 }
 
 // The number, if it is at most the limit.
@@ -152,41 +161,52 @@ fn add_pair(
     })
 }
 
-// Takes one line into the tables. `sofar` is the head of the lines before, and there is none before the C line.
-fn take_line(
-    sofar: Option<Head>,
-    line: &Line,
-    place: usize,
-    activities: &mut [Activity],
-    pairs: &mut [Pair],
-) -> Result<Head, Refusal>
-    requires ready { Ready line.now }
-    requires kept { KeptSofar sofar activities.old pairs.old }
-    ensures { Took (judged (sizes activities.old pairs.old) (sofar_of sofar activities.old pairs.old) (Some (content_in line.now))) place activities.old pairs.old result activities.new pairs.new }
-{
-    let numbers = line.numbers.as_slice();
-    match (sofar, line.kind) {
-        (None, LineKind::Capacities) => open_head(numbers).ok_or(Refusal::OverLimit(place)),
-        (Some(head), LineKind::Job) => add_activity(head, numbers, place, activities),
-        (Some(head), LineKind::Pairing(kind)) => add_pair(head, kind, numbers, place, pairs),
-        _ => Err(Refusal::OutOfOrder(place)),
-    }
-}
+impl<'t> Reader<'t> {
+    ghost use Rattle.book.specs.Took.{SameTables, TookLine, project_in};
 
-// Reads a line of the book, and takes it into the tables.
-fn read_one(
-    line: Part<'_>,
-    sofar: Option<Head>,
-    activities: &mut [Activity],
-    pairs: &mut [Pair],
-) -> Result<Head, Refusal>
-    requires { KeptSofar sofar activities.old pairs.old }
-    ensures { Took (judged (sizes activities.old pairs.old) (sofar_of sofar activities.old pairs.old) (formed (resources_of (sofar_of sofar activities.old pairs.old)) line.entry.text.now)) line.entry.place activities.old pairs.old result activities.new pairs.new }
-{
-    let (letter, words) = Words::first(line);
-    let resources = sofar.map_or(0, |head| head.resources);
-    let said = read_line(letter, words, resources)?;
-    take_line(sofar, &said, line.place, activities, pairs)
+    // A reader that has read no line.
+    fn new(activities: &'t mut [Activity], pairs: &'t mut [Pair]) -> Reader<'t>
+        ensures none { result.sofar ≡ None }
+        ensures activities { (result.activities.ghost_name ≡ activities.entry.ghost_name) × (result.activities.now ≡ activities.old) }
+        ensures pairs { (result.pairs.ghost_name ≡ pairs.entry.ghost_name) × (result.pairs.now ≡ pairs.old) }
+    {
+        Reader {
+            sofar: None,
+            activities,
+            pairs,
+        }
+    }
+
+    // Takes one line into the tables, and answers the head with it.
+    fn take(&mut self, line: &Line, place: usize) -> Result<Head, Refusal>
+        requires { Ready line.now }
+        ensures took { Took (judged (sizes self.old.activities.now self.old.pairs.now) (project_in self.old) (Some (content_in line.now))) place self.old.activities.now self.old.pairs.now result self.new.activities.now self.new.pairs.now }
+        ensures sofar { self.new.sofar ≡ self.old.sofar }
+        ensures same { SameTables self.old self.new }
+    {
+        let numbers = line.numbers.as_slice();
+        match (self.sofar, line.kind) {
+            (None, LineKind::Capacities) => open_head(numbers).ok_or(Refusal::OverLimit(place)),
+            (Some(head), LineKind::Job) => add_activity(head, numbers, place, self.activities),
+            (Some(head), LineKind::Pairing(kind)) => {
+                add_pair(head, kind, numbers, place, self.pairs)
+            }
+            _ => Err(Refusal::OutOfOrder(place)),
+        }
+    }
+
+    // Reads a line of the book, and takes it into the tables.
+    fn read(&mut self, line: Part<'_>) -> Result<(), Refusal>
+        ensures took { TookLine (judged (sizes self.old.activities.now self.old.pairs.now) (project_in self.old) (formed (resources_known self.old.sofar) line.entry.text.now)) line.entry.place self.old result self.new }
+        ensures same { SameTables self.old self.new }
+    {
+        let (letter, words) = Words::first(line);
+        let resources = self.sofar.map_or(0, |head| head.resources);
+        let said = read_line(letter, words, resources)?;
+        let head = self.take(&said, line.place)?;
+        self.sofar = Some(head);
+        Ok(())
+    }
 }
 
 // The last step: the trailer counts the lines, and there is an activity.
@@ -263,13 +283,13 @@ fn read_body(
         text: &book[last.start..last.place],
         place: last.start,
     };
-    let mut sofar = None;
+    let mut reader = Reader::new(activities, pairs);
     let mut count = 0;
     for line in (Lines { left: body }) {
-        sofar = Some(read_one(line, sofar, activities, pairs)?);
+        reader.read(line)?;
         count += 1;
     }
-    close(sofar, count, last)
+    close(reader.sofar, count, last)
 }
 
 fn read_project(

@@ -48,14 +48,18 @@ at_most limit n = cond (nat_le n limit) (Some n) None
 abbrev pub opening : List ℕ → Option Head
 opening ns = cond (within (padded ns) (replicate most_resources most_capacity)) (Some (head_of (opened ns))) None
 
+-- a project and the table have room for one more
+abbrev pub has_room : {A : Type 0} → ℕ → ℕ → List A → Bool
+has_room held most xs = nat_lt held most && nat_lt held (length xs)
+
 -- the activity to add, or the number of what is wrong with it
 abbrev pub activity_judged : Head → List ℕ → List Activity → Result Activity ℕ
 activity_judged h ns acts =
-    cond (nat_lt 0 h.pairs) (Err 3) (cond (activity_fits h.capacities (activity_of ns)) (cond (nat_lt h.activities most_activities && nat_lt h.activities (length acts)) (Ok (activity_of ns)) (Err 6)) (Err 4))
+    cond (nat_lt 0 h.pairs) (Err 3) (cond (activity_fits h.capacities (activity_of ns)) (cond (has_room h.activities most_activities acts) (Ok (activity_of ns)) (Err 6)) (Err 4))
 
 abbrev pub pair_judged : Head → Kind → List ℕ → List Pair → Result Pair ℕ
 pair_judged h k ns ps =
-    cond (proper h.activities (pair_of k ns) && follows (take h.pairs ps) (pair_of k ns)) (cond (nat_lt h.pairs most_pairs && nat_lt h.pairs (length ps)) (Ok (pair_of k ns)) (Err 6)) (Err 5)
+    cond (proper h.activities (pair_of k ns) && follows (take h.pairs ps) (pair_of k ns)) (cond (has_room h.pairs most_pairs ps) (Ok (pair_of k ns)) (Err 6)) (Err 5)
 
 abbrev pub activity_more : Head → Head
 activity_more h = record { activities = h.activities + 1; resources = h.resources; capacities = h.capacities; pairs = h.pairs }

@@ -1,5 +1,5 @@
 // Reading a book into lent tables, line by line.
-ghost use Rattle.std.specs.Prelude.{◌≡◌, ℕ, ◌-◌, ◌≤◌, false, ◌&&◌, ◌↔◌, List, [], length, replicate, if◌then◌else◌, Some, None, Ok, Err};
+ghost use Rattle.std.specs.Prelude.{◌≡◌, ℕ, ◌+◌, ◌-◌, ◌≤◌, slice_set, false, ◌&&◌, ◌↔◌, List, [], length, replicate, if◌then◌else◌, Some, None, Ok, Err};
 ghost use Rattle.std.specs.List.{suffix_len};
 ghost use Rattle.project.specs.Project.{Project, within, activity_fits, proper, follows, is_blank, most_activities, most_resources, blank_activity, blank_pair};
 ghost use Rattle.project.specs.Refusals.{Refused, refused, answer};
@@ -8,7 +8,7 @@ ghost use Rattle.book.specs.Lines.{formed};
 ghost use Rattle.book.specs.Parsed.{most_numbers};
 ghost use Rattle.book.specs.Reading.{judged, not_lf, resources_of, padded, activity_of, trailed, trailer, reading, head_answer, activities_after, pairs_after, pair_of};
 ghost use Rattle.book.specs.Written.{written};
-ghost use Rattle.book.specs.Steps.{activity_judged, pair_judged, opening, at_most, Ready, activity_more, pair_more, Put, Took, Kept, resources_known, content_in, trailer_told, closing, Reads};
+ghost use Rattle.book.specs.Steps.{has_room, activity_judged, pair_judged, opening, at_most, Ready, activity_more, pair_more, Put, Took, Kept, resources_known, content_in, trailer_told, closing, Reads};
 
 use crate::lines::{Line, LineKind, Lines, read_line};
 use crate::words::{LF, Part, Words};
@@ -107,6 +107,18 @@ fn open_head(numbers: &[u32]) -> Option<Head>
     })
 }
 
+// Puts an item into a table after those that it holds, and answers how many it holds then, if there is room for one more.
+fn put<T: Copy>(item: T, held: usize, most: usize, table: &mut [T]) -> Option<usize>
+    ensures held { result ≡ (if has_room held most table.old then Some (held + 1) else None) }
+    ensures put { table.new ≡ (if has_room held most table.old then slice_set table.old held item else table.old) }
+{
+    if held >= most || held >= table.len() {
+        return None;
+    }
+    table[held] = item;
+    Some(held + 1)
+}
+
 fn add_activity(
     head: Head,
     numbers: &[u32],
@@ -123,13 +135,11 @@ fn add_activity(
     let Some(activity) = activity_of(numbers, &head.capacities) else {
         return Err(Refusal::OverLimit(place));
     };
-    let n = head.activities;
-    if n >= MOST_ACTIVITIES || n >= activities.len() {
+    let Some(held) = put(activity, head.activities, MOST_ACTIVITIES, activities) else {
         return Err(Refusal::TooMany(place));
-    }
-    activities[n] = activity;
+    };
     Ok(Head {
-        activities: n + 1,
+        activities: held,
         ..head
     })
 }
@@ -147,16 +157,14 @@ fn add_pair(
     requires two { length numbers.now ≡ 2 }
     ensures { Put (pair_judged head kind numbers.now pairs.old) place (pair_more head) head.pairs pairs.old result pairs.new }
 {
-    let m = head.pairs;
-    let Some(pair) = pair_of(kind, numbers, head.activities, &pairs[..m]) else {
+    let Some(pair) = pair_of(kind, numbers, head.activities, &pairs[..head.pairs]) else {
         return Err(Refusal::BadPair(place));
     };
-    if m >= MOST_PAIRS || m >= pairs.len() {
+    let Some(held) = put(pair, head.pairs, MOST_PAIRS, pairs) else {
         return Err(Refusal::TooMany(place));
-    }
-    pairs[m] = pair;
+    };
     Ok(Head {
-        pairs: m + 1,
+        pairs: held,
         ..head
     })
 }

@@ -8,7 +8,6 @@ pub mod Faulting
 pub mod Frames
 pub mod Looping
 pub mod Numbering
-pub mod Reaching
 pub mod Refusing
 pub mod Spelling
 pub mod Taking

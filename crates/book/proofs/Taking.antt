@@ -138,3 +138,10 @@ module _ (s : Option Head) (l : Line) (place : ℕ) (acts : List Activity) (ps :
       pub line_pair : (k : Kind) → l.kind ≡ Pairing k → (r : Result Head Refusal) (ps' : List Pair) → Put (pair_judged h k ns ps) place (pair_more h) h.pairs ps r ps' → Took (judged (sizes acts ps) (sofar_of s acts ps) (Some (content_in l))) place acts ps r acts ps'
       line_pair k f r ps' put =
           at_line (Some h) (Pairing k) ns r acts ps' e f is (take_pair h acts ps known place k ns r ps' put)
+
+-- the head that a line gives is within the limits, and the tables have its records
+pub took_kept : (j : Result Project ℕ) (place : ℕ) (acts : List Activity) (ps : List Pair) (h : Head) (acts' : List Activity) (ps' : List Pair) → Took j place acts ps (Ok h) acts' ps' → Kept (Some h) acts' ps'
+took_kept (Ok p) place acts ps h acts' ps' took =
+    let same : head_of p ≡ h = cc took.0 in
+    subst (λ x. Kept (Some x) acts' ps') same took.3
+took_kept (Err n) place acts ps h acts' ps' took = let z : ◌≡◌ {A = ℕ} 0 1 = cc took in absurd (omega arith)

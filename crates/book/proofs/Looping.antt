@@ -1,7 +1,7 @@
 -- What the loop over a book's lines keeps, and what it comes to. Assumes nothing.
 use Rattle.std.proofs.Common.{◌≡◌, ℕ, suc, ◌+◌, ◌-◌, ◌≤◌, Bool, true, false, cond, ◌&&◌, eqb, leb, List, [], ◌∷◌, ◌++◌, length, take, drop, replicate, is_err, Some, None, Ok, Err, Option, Result, sym, refl, ap, ◌∙◌, subst, append_assoc, arith}
 use Rattle.std.specs.List.{between, flat_map}
-use Rattle.std.proofs.lemmas.List.{append_cancel_left, length-append, length_push, length-take-le, drop_at, drop-drop, take_at}
+use Rattle.std.proofs.lemmas.List.{append_cancel_left, length_push, length-take-le, drop_at, drop-drop, take_at}
 use Rattle.std.proofs.lemmas.Bool.{true≢false}
 use Rattle.project.specs.Project.{Project, project_of, head_of, filled, blank_activity, blank_pair}
 use Rattle.project.specs.Refusals.{Refused, refused, told, answer}
@@ -15,7 +15,7 @@ use Rattle.book.specs.declared.reader.Trailer.{Trailer as Found}
 use Rattle.book.specs.Accepted.{Sizes, sizes}
 use Rattle.book.specs.Cuts.{Without, SplitAt}
 use Rattle.book.specs.declared.words.Part.{Part}
-use Rattle.book.specs.Lines.{lf, most_bytes, line, lines, formed, with_lf}
+use Rattle.book.specs.Lines.{lf, line, lines, formed, with_lf}
 use Rattle.book.specs.Written.{trailer_line}
 use Rattle.book.specs.Reading.{Sofar, Trailed, resources_of, activity_of, pair_of, added, extended, judged, on, read_lines, trailer, body_lines, closed, read_after, reading, head_answer, activities_after, pairs_after}
 use Rattle.book.specs.Steps.{sofar_of, activities_known, pairs_known, resources_known, Kept, closing, Reads}
@@ -35,29 +35,15 @@ pub record Midway (bs : List ℕ) (t : Trailed) (first r : Reader) (left : Part)
   pub activities : r.activities.now ≡ filled (take (activities_known r.sofar) r.activities.now) first.activities.now
   pub pairs : r.pairs.now ≡ filled (take (pairs_known r.sofar) r.pairs.now) first.pairs.now
 
--- the body that a right trailer points to lies in the book, and its lines end in LF
-pub record Body (bs : List ℕ) (t : Trailed) : Type 0 where
-  pub order : t.start ≤ t.place
-  pub within : t.place ≤ length bs
-  pub short : length bs ≤ most_bytes
-  pub ended : flat_map with_lf (body_lines bs t) ≡ between t.start t.place bs
-
-pub body_of : (bs : List ℕ) (t : Trailed) → trailer bs ≡ Some t → Body bs t
-body_of bs t is =
+-- the lines of the body that a right trailer points to end in LF
+body_ends : (bs : List ℕ) (t : Trailed) → trailer bs ≡ Some t → flat_map with_lf (body_lines bs t) ≡ between t.start t.place bs
+body_ends bs t is =
     let right = trailer_framed bs t is in
-    let frame = right.0 in
     let body = flat_map with_lf (body_lines bs t) in
     let z = line (trailer_line (length (take t.start bs)) t.count) in
-    let split : drop t.start bs ≡ body ++ z = ap (drop t.start) frame.whole ∙ drop_at (take t.start bs) _ t.start right.1 in
-    let long = ap length frame.whole ∙ length-append (take t.start bs) (body ++ z) in
-    let rest_long = length-append body z in
+    let split : drop t.start bs ≡ body ++ z = ap (drop t.start) right.0.whole ∙ drop_at (take t.start bs) _ t.start right.1 in
     let span : t.place - t.start ≡ length body = omega (arith, right.2) in
-    record {
-      order = omega (arith, right.2);
-      within = omega (arith, right.1, right.2);
-      short = frame.short;
-      ended = sym (ap (λ n. take n (drop t.start bs)) span ∙ ap (take (length body)) split ∙ take_at body z (length body) refl);
-    }
+    sym (ap (λ n. take n (drop t.start bs)) span ∙ ap (take (length body)) split ∙ take_at body z (length body) refl)
 
 -- before the first line
 pub at_start : (bs : List ℕ) (t : Trailed) (r : Reader) (body : Part) → r.sofar ≡ None → trailer bs ≡ Some t → body.text.now ≡ between t.start t.place bs → body.place ≡ t.start → Midway bs t r r body 0
@@ -68,7 +54,7 @@ at_start bs t r body none is text place =
     let sofar : project_in r ≡ None = ap (λ s. sofar_of s acts ps) none in
     record {
       tables = record { activities = refl; activities_long = refl; pairs = refl; pairs_long = refl };
-      ended = ap (flat_map with_lf) same ∙ (body_of bs t is).ended ∙ sym text;
+      ended = ap (flat_map with_lf) same ∙ body_ends bs t is ∙ sym text;
       same = ap (read_after (sizes acts ps) bs) is ∙ (λ i. closed t (length (body_lines bs t)) (read_lines (sizes acts ps) (sym sofar i) (sym place i) (sym same i)));
       counts = omega (arith, ap length same);
       few = omega arith;

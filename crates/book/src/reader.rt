@@ -91,7 +91,10 @@ fn pair_of(kind: Kind, numbers: &[u32], activities: usize, before: &[Pair]) -> O
         first,
         second,
     };
-    can_follow(&pair, before).then_some(pair)
+    if !can_follow(&pair, before) {
+        return None;
+    }
+    Some(pair)
 }
 
 // The head of a project that has the capacities of a C line and nothing else yet, if they are within their limit.

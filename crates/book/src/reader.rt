@@ -52,6 +52,7 @@ fn bounded(numbers: &[u32], limits: &[u8; MOST_RESOURCES]) -> Option<[u8; MOST_R
     ensures { result ≡ (if within (padded numbers.now) limits.now then Some (padded numbers.now) else None) }
 {
     let mut bytes = [0; MOST_RESOURCES];
+    // By place: a proof knows nothing of what is written through a `zip` of `iter_mut`.
     for (k, number) in numbers.iter().enumerate() {
         bytes[k] = at_most(limits[k], *number)?;
     }
@@ -239,8 +240,8 @@ fn point(book: &[u8], place: usize, line: &Line) -> Option<Trailer>
     let (LineKind::Trailer, [start, count]) = (line.kind, line.numbers.as_slice()) else {
         return None;
     };
-    let start = *start as usize;
-    let count = *count as usize;
+    let start = usize::try_from(*start).ok()?;
+    let count = usize::try_from(*count).ok()?;
     if start > place || (start > 0 && book[start - 1] != LF) {
         return None;
     }

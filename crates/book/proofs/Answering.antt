@@ -1,23 +1,18 @@
 -- What the format says of a book, said of the answer of a call. Assumes nothing.
-use Rattle.std.proofs.Common.{◌≡◌, ℕ, ◌↔◌, List, [], length, take, replicate, Ok, Err, Result, sym, refl, ap, ◌∙◌, subst, arith}
-use Rattle.std.proofs.lemmas.List.{take_at}
-use Rattle.project.specs.Project.{Project, project_of, head_of, Shaped, Rules, blank_activity, blank_pair}
+use Rattle.std.proofs.Common.{◌≡◌, ℕ, ◌↔◌, List, [], length, replicate, Ok, Err, Result, sym, ap, ◌∙◌, arith}
+use Rattle.project.specs.Project.{Project, project_of, head_of, blank_activity, blank_pair}
 use Rattle.project.specs.Refusals.{Refused, refused, answer}
 use Rattle.project.specs.declared.refusal.Refusal.{Refusal}
 use Rattle.project.specs.declared.tables.Activity.{Activity}
 use Rattle.project.specs.declared.tables.Head.{Head}
 use Rattle.project.specs.declared.tables.Pair.{Pair}
-use Rattle.book.specs.Accepted.{IsBook, Gave, Unread, Framed, WritesBook, sizes}
-use Rattle.book.specs.Puts.{PutAt, whole_text}
-use Rattle.book.specs.Reading.{reading, ReadsBack, head_answer, activities_after, pairs_after}
+use Rattle.book.specs.Accepted.{IsBook, Gave, Unread, Framed, sizes}
+use Rattle.book.specs.Reading.{reading, head_answer, activities_after, pairs_after}
 use Rattle.book.specs.Written.{written}
-use Rattle.book.proofs.Acceptance.{accepts, written_book}
-use Rattle.book.proofs.Bodies.{err_ok}
+use Rattle.book.proofs.Acceptance.{accepts}
 use Rattle.book.proofs.Looping.{held}
 use Rattle.book.proofs.Refusing.{refuses, writes_back}
 use Rattle.book.proofs.Taking.{answer_ok}
-use Rattle.book.proofs.TextLines.{text_written}
-use Rattle.book.proofs.Writing.{put_same, put_all}
 
 module _ (bs : List ℕ) (acts : List Activity) (ps : List Pair) (r : Result Head Refusal) (acts' : List Activity) (ps' : List Pair) (value : answer r ≡ head_answer (reading (sizes acts ps) bs)) (acts_are : acts' ≡ activities_after (reading (sizes acts ps) bs) acts) (pairs_are : ps' ≡ pairs_after (reading (sizes acts ps) bs) ps) where
   gave_read : (p : Project) → Gave acts ps r acts' ps' p → reading (sizes acts ps) bs ≡ Ok p
@@ -63,43 +58,3 @@ module _ (bs : List ℕ) (acts : List Activity) (ps : List Pair) (r : Result Hea
   blank_call x e =
       let is = refused_read x e in
       (acts_are ∙ ap (λ o. activities_after o acts) is, pairs_are ∙ ap (λ o. pairs_after o ps) is)
-
--- What a call that writes leaves is a book, and reads back.
-
-module _ (p : Project) (shaped : Shaped p) (rules : Rules p) {out left : List ℕ} {end : ℕ} (put : PutAt out left 0 end (whole_text p)) where
-  taken : (n : ℕ) → end ≡ n → take n left ≡ written 0 p
-  taken n is =
-      let w = put_all (put_same refl refl (text_written p) put) in
-      let same : length (written 0 p) ≡ n = sym w.0 ∙ is in
-      ap (take n) w.1 ∙ take_at (written 0 p) _ n same
-
-  pub book_written : WritesBook p (Ok end) left
-  book_written n z is a q =
-      let same : end ≡ n = cc in
-      subst (λ bs. IsBook z bs p) (sym (taken n same)) (written_book z p shaped rules a q)
-
-pub no_book : (p : Project) (e : Refusal) (out : List ℕ) → WritesBook p (Err e) out
-no_book p e out n z is a q = absurd (err_ok is)
-
-pub reads_back : (p : Project) (r : Result ℕ Refusal) (out : List ℕ) → WritesBook p r out → ReadsBack p r out
-reads_back p r out book n z is a q = (accepts z (take n out) p).1 (book n z is a q)
-
--- Refusal 8 says that the tables are not sound, and nothing else does.
-module _ (S : Type 0) where
-  pub broken_rules : (S → ⊥) → (◌≡◌ {A = Result ℕ Refused} (Err (refused 8 0)) (Err (refused 8 0))) ↔ (S → ⊥)
-  broken_rules un = (λ _. un, λ _. refl)
-
-  pub short_rules : S → (◌≡◌ {A = Result ℕ Refused} (Err (refused 9 0)) (Err (refused 8 0))) ↔ (S → ⊥)
-  short_rules sound = (λ e. absurd (other e), λ un. absurd (un sound))
-    where
-      other : ◌≡◌ {A = Result ℕ Refused} (Err (refused 9 0)) (Err (refused 8 0)) → ⊥
-      other e =
-          let x : refused 9 0 ≡ refused 8 0 = cc in
-          let z : ◌≡◌ {A = ℕ} 9 8 = ap (λ (y : Refused). y.number) x in
-          omega arith
-
-  pub kept_rules : (n : ℕ) → S → (◌≡◌ {A = Result ℕ Refused} (Ok n) (Err (refused 8 0))) ↔ (S → ⊥)
-  kept_rules n sound = (λ e. absurd (other e), λ un. absurd (un sound))
-    where
-      other : ◌≡◌ {A = Result ℕ Refused} (Ok n) (Err (refused 8 0)) → ⊥
-      other e = let z : ◌≡◌ {A = ℕ} 0 1 = cc in omega arith

@@ -8,9 +8,9 @@ pub mod Faulting
 pub mod Frames
 pub mod Looping
 pub mod Numbering
+pub mod Publishing
 pub mod Refusing
 pub mod Spelling
 pub mod Taking
 pub mod TextLines
 pub mod Theorems
-pub mod Writing

@@ -2,8 +2,9 @@ pub mod Accepted
 pub mod Cuts
 pub mod Lines
 pub mod Parsed
-pub mod Puts
 pub mod Reading
+pub mod Saying
 pub mod Steps
-pub mod Written
+pub mod Texts
 pub mod Took
+pub mod Written

@@ -1,243 +1,234 @@
 // Writing the text of a project into lent bytes. The length is counted first, so that a refusal writes nothing.
-ghost use Rattle.std.specs.Prelude.{◌≡◌, ◌+◌, ◌^◌, ◌<◌, ◌≤◌, ◌↔◌, [], ◌∷◌, length, Err, decimal};
-ghost use Rattle.std.specs.List.{flat_map};
-ghost use Rattle.project.specs.Project.{Sound, project_of, most_activities, most_pairs, most_resources};
+ghost use Rattle.std.specs.Prelude.{◌≡◌, ◌+◌, ◌^◌, ◌<◌, ◌≤◌, ◌↔◌, [], ◌++◌, length, take};
+ghost use Rattle.arrayvec.specs.ArrayVec.{array_vec_len};
+ghost use Rattle.project.specs.Project.{Sound, project_of, most_activities, most_pairs};
 ghost use Rattle.project.specs.Refusals.{answer, refused};
 ghost use Rattle.book.specs.Accepted.{WritesBook};
 ghost use Rattle.book.specs.Reading.{ReadsBack};
-ghost use Rattle.book.specs.Lines.{letter, spaced};
+ghost use Rattle.book.specs.Lines.{spaced};
 ghost use Rattle.book.specs.Parsed.{most_numbers};
-ghost use Rattle.book.specs.Puts.{PutAt, Writable, line_text, line_at, whole_text};
-ghost use Rattle.book.specs.Steps.{content_in};
+ghost use Rattle.book.specs.Saying.{Writable, line_text, saying};
 ghost use Rattle.book.specs.Written.{activity_line, capacities_line, pair_line, trailer_line, written, writing, bytes_after};
 
-use crate::lines::{Line, LineKind, Numbers};
+use crate::lines::{Line, LineKind, MOST_NUMBERS, Numbers};
 use crate::words::{LF, SPACE};
+use arrayvec::ArrayVec;
+use itoa::Buffer;
+use numerals::Page;
 use project::refusal::Refusal;
-use project::rules::keeps_rules;
-use project::tables::{Activity, Head, Kind, Pair};
+use project::tables::{Activity, Head, Kind, Pair, Tables};
 
-// How many digits a number has.
-fn number_length(n: u32) -> usize
-    ensures value { result ≡ length (decimal n) }
-    ensures bound { result ≤ 10 }
-{
-    if n < 10 { 1 } else { number_length(n / 10) + 1 }
-}
+// The most bytes of a number and the space before it.
+const MOST_SPACED: usize = 11;
 
-// Each of the functions that write does so at a place, and answers the place after what it wrote.
-fn write_byte(out: &mut [u8], at: usize, byte: u8) -> usize
-    requires { at < length out.old }
-    ensures { PutAt out.old out.new at result (byte ∷ []) }
-{
-    out[at] = byte;
-    at + 1
-}
+// The most bytes of a line: its letter, its numbers and LF.
+const MOST_LINE_BYTES: usize = 2 + MOST_NUMBERS * MOST_SPACED;
 
-fn write_number(out: &mut [u8], at: usize, n: u32) -> usize
-    requires { at + length (decimal n) ≤ length out.old }
-    ensures { PutAt out.old out.new at result (decimal n) }
-{
-    let last = if n < 10 {
-        at
-    } else {
-        write_number(out, at, n / 10)
-    };
-    write_byte(out, last, b'0' + (n % 10) as u8)
-}
+type LineText = ArrayVec<u8, MOST_LINE_BYTES>;
 
-// How many bytes the numbers of a line take, each with the space before it.
-fn numbers_length(numbers: &[u32]) -> usize
-    requires { length numbers.now ≤ most_numbers }
-    ensures value { result ≡ length (flat_map spaced numbers.now) }
-    ensures bound { result ≤ 55 }
-{
-    let mut length = 0;
-    for number in numbers {
-        length += 1 + number_length(*number);
-    }
-    length
-}
+// The letter that tells a kind of line. No line is of a blank pair.
+impl From<LineKind> for u8 {
+    ghost use Rattle.std.specs.Prelude.{◌≡◌};
+    ghost use Rattle.book.specs.Lines.{letter};
 
-fn write_numbers(out: &mut [u8], at: usize, numbers: &[u32]) -> usize
-    requires { at + length (flat_map spaced numbers.now) ≤ length out.old }
-    ensures { PutAt out.old out.new at result (flat_map spaced numbers.now) }
-{
-    let mut end = at;
-    for number in numbers {
-        let digits = write_byte(out, end, SPACE);
-        end = write_number(out, digits, *number);
-    }
-    end
-}
+    ghost from_gives = { λ kind byte. byte ≡ letter kind };
 
-// The letter that tells the kind of a line. No line is of a blank pair.
-fn line_letter(kind: LineKind) -> u8
-    ensures { result ≡ letter kind }
-{
-    match kind {
-        LineKind::Capacities => b'C',
-        LineKind::Job => b'J',
-        LineKind::Pairing(Kind::Blank) => 0,
-        LineKind::Pairing(Kind::And) => b'A',
-        LineKind::Pairing(Kind::Or) => b'O',
-        LineKind::Pairing(Kind::Bi) => b'B',
-        LineKind::Trailer => b'Z',
+    fn from(kind: LineKind) -> u8 {
+        match kind {
+            LineKind::Capacities => b'C',
+            LineKind::Job => b'J',
+            LineKind::Pairing(Kind::Blank) => 0,
+            LineKind::Pairing(Kind::And) => b'A',
+            LineKind::Pairing(Kind::Or) => b'O',
+            LineKind::Pairing(Kind::Bi) => b'B',
+            LineKind::Trailer => b'Z',
+        }
     }
 }
 
-fn line_length(line: &Line) -> usize
-    requires { line.now.numbers.count ≤ most_numbers }
-    ensures value { result ≡ length (line_text line.now) }
-    ensures bound { result ≤ 57 }
+// Appends a space and the number.
+fn push_number(text: &mut LineText, number: u32)
+    requires { array_vec_len text.old + MOST_SPACED ≤ MOST_LINE_BYTES }
+    ensures says { text.new.items ≡ text.old.items ++ spaced number }
+    ensures bound { array_vec_len text.new ≤ array_vec_len text.old + MOST_SPACED }
 {
-    let numbers = &line.numbers;
-    numbers_length(&numbers.values[0..numbers.count]) + 2
+    text.push(SPACE);
+    text.try_extend_from_slice(Buffer::new().format(number).as_bytes())
+        .unwrap();
 }
 
-fn write_line(out: &mut [u8], at: usize, line: &Line) -> usize
-    requires few { line.now.numbers.count ≤ most_numbers }
-    requires room { at + length (line_text line.now) ≤ length out.old }
-    ensures { PutAt out.old out.new at result (line_text line.now) }
+impl Line {
+    // The bytes of the line. They are made before they are written, so that counting them and writing them is one thing.
+    fn text(&self) -> LineText
+        ensures { result.items ≡ line_text self.now }
+    {
+        let mut text = LineText::new();
+        text.push(u8::from(self.kind));
+        for number in self.numbers.as_slice() {
+            push_number(&mut text, *number);
+        }
+        text.push(LF);
+        text
+    }
+}
+
+// Appends the first `count` of the bytes, or all where there are fewer.
+fn push_first(numbers: &mut Numbers, count: usize, bytes: &[u8])
+    requires { array_vec_len numbers.old + length bytes.now ≤ most_numbers }
+    ensures { numbers.new.items ≡ numbers.old.items ++ take count bytes.now }
 {
-    let numbers = &line.numbers;
-    let after_letter = write_byte(out, at, line_letter(line.kind));
-    let end = write_numbers(out, after_letter, &numbers.values[0..numbers.count]);
-    write_byte(out, end, LF)
+    for byte in &bytes[..count.min(bytes.len())] {
+        numbers.push(u32::from(*byte));
+    }
 }
 
 fn capacities_line(head: &Head) -> Line
-    requires { head.now.resources ≤ most_resources }
-    ensures says { content_in result ≡ capacities_line (project_of head.now [] []) }
-    ensures few { result.numbers.count ≤ most_numbers }
+    ensures { result ≡ saying (capacities_line (project_of head.now [] [])) }
 {
-    let [a, b, c, d] = head.capacities;
-    let values = [a as u32, b as u32, c as u32, d as u32, 0];
+    let mut numbers = Numbers::new();
+    push_first(&mut numbers, head.resources, &head.capacities);
     Line {
         kind: LineKind::Capacities,
-        numbers: Numbers {
-            count: head.resources,
-            values,
-        },
+        numbers,
     }
 }
 
 fn activity_line(activity: &Activity, resources: usize) -> Line
-    requires { resources ≤ most_resources }
-    ensures says { content_in result ≡ activity_line resources activity.now }
-    ensures few { result.numbers.count ≤ most_numbers }
+    ensures { result ≡ saying (activity_line resources activity.now) }
 {
-    let [a, b, c, d] = activity.demands;
-    let values = [
-        activity.duration as u32,
-        a as u32,
-        b as u32,
-        c as u32,
-        d as u32,
-    ];
+    let mut numbers = Numbers::new();
+    numbers.push(u32::from(activity.duration));
+    push_first(&mut numbers, resources, &activity.demands);
     Line {
         kind: LineKind::Job,
-        numbers: Numbers {
-            count: resources + 1,
-            values,
-        },
+        numbers,
     }
 }
 
 fn pair_line(pair: &Pair) -> Line
-    ensures says { content_in result ≡ pair_line pair.now }
-    ensures few { result.numbers.count ≤ most_numbers }
+    ensures { result ≡ saying (pair_line pair.now) }
 {
-    let values = [pair.first as u32, pair.second as u32, 0, 0, 0];
+    let mut numbers = Numbers::new();
+    numbers.push(u32::from(pair.first));
+    numbers.push(u32::from(pair.second));
     Line {
         kind: LineKind::Pairing(pair.kind),
-        numbers: Numbers { count: 2, values },
+        numbers,
     }
 }
 
 // The last line of a text with so many lines before it. They start at 0, since no cover stands before them.
 fn trailer_line(lines: usize) -> Line
     requires { lines < 2 ^ 32 }
-    ensures says { content_in result ≡ trailer_line 0 lines }
-    ensures few { result.numbers.count ≤ most_numbers }
+    ensures { result ≡ saying (trailer_line 0 lines) }
 {
-    let values = [0, lines as u32, 0, 0, 0];
+    let mut numbers = Numbers::new();
+    numbers.push(0);
+    // A `usize` has no `From` into `u32`. The cast loses nothing.
+    numbers.push(lines as u32);
     Line {
         kind: LineKind::Trailer,
-        numbers: Numbers { count: 2, values },
+        numbers,
     }
 }
 
-// The line of the text at that place among its lines: the capacities, the activities, the pairs and the trailer.
-fn text_line(head: &Head, activities: &[Activity], pairs: &[Pair], i: usize) -> Line
-    requires tables { Writable head.now activities.now pairs.now }
-    requires within { i < head.now.activities + head.now.pairs + 2 }
-    ensures says { content_in result ≡ line_at (project_of head.now activities.now pairs.now) i }
-    ensures few { result.numbers.count ≤ most_numbers }
-{
-    let first_pair = 1 + head.activities;
-    let trailer = first_pair + head.pairs;
-    if i == 0 {
-        capacities_line(head)
-    } else if i < first_pair {
-        activity_line(&activities[i - 1], head.resources)
-    } else if i < trailer {
-        pair_line(&pairs[i - first_pair])
-    } else {
-        trailer_line(trailer)
+// The lines of a text that are still to come. It is no chain of iterators, since the type of one that holds closures cannot be named.
+#[derive(Drop)]
+struct TextLines<'t> {
+    capacities: Option<Line>,
+    resources: usize,
+    activities: &'t [Activity],
+    pairs: &'t [Pair],
+    trailer: Option<Line>,
+}
+
+impl Iterator for TextLines<'_> {
+    ghost use Rattle.std.specs.Iterator.{YieldsFirst, item_count};
+    ghost use Rattle.book.specs.Texts.{lines_left};
+
+    type Item = Line;
+
+    ghost next_gives = { YieldsFirst lines_left };
+
+    ghost remaining = { item_count lines_left };
+
+    fn next(&mut self) -> Option<Line> {
+        if let Some(line) = self.capacities.take() {
+            return Some(line);
+        }
+        if let Some((activity, rest)) = self.activities.split_first() {
+            self.activities = rest;
+            return Some(activity_line(activity, self.resources));
+        }
+        if let Some((pair, rest)) = self.pairs.split_first() {
+            self.pairs = rest;
+            return Some(pair_line(pair));
+        }
+        self.trailer.take()
     }
 }
 
-// How many lines the text has.
-fn line_count(head: &Head) -> usize
-    requires few { head.now.activities ≤ most_activities }
-    requires pairs { head.now.pairs ≤ most_pairs }
-    ensures { result ≡ head.now.activities + head.now.pairs + 2 }
-{
-    head.activities + head.pairs + 2
+// The text of tables that keep the rules.
+#[derive(Clone, Copy)]
+struct Text<'t> {
+    tables: Tables<'t>,
+    ghost kept: { Writable tables.head tables.activities.now tables.pairs.now },
 }
 
-fn text_length(head: &Head, activities: &[Activity], pairs: &[Pair]) -> usize
-    requires { Writable head.now activities.now pairs.now }
-    ensures { result ≡ length (whole_text (project_of head.now activities.now pairs.now)) }
-{
-    let mut length = 0;
-    for i in 0..line_count(head) {
-        length += line_length(&text_line(head, activities, pairs, i));
-    }
-    length
-}
+impl<'t> Text<'t> {
+    ghost use Rattle.std.specs.List.{flat_map};
+    ghost use Rattle.numerals.specs.Puts.{PutAt};
+    ghost use Rattle.book.specs.Texts.{lines_left, text_of};
 
-fn write_text(head: &Head, activities: &[Activity], pairs: &[Pair], out: &mut [u8]) -> usize
-    requires tables { Writable head.now activities.now pairs.now }
-    requires room { length (whole_text (project_of head.now activities.now pairs.now)) ≤ length out.old }
-    ensures { PutAt out.old out.new 0 result (whole_text (project_of head.now activities.now pairs.now)) }
-{
-    let mut at = 0;
-    for i in 0..line_count(head) {
-        at = write_line(out, at, &text_line(head, activities, pairs, i));
+    fn lines(self) -> TextLines<'t>
+        ensures text { flat_map line_text (lines_left result) ≡ text_of self.entry }
+        ensures bound { length (lines_left result) ≤ most_activities + most_pairs + 2 }
+    {
+        let head = self.tables.head;
+        let activities = &self.tables.activities[..head.activities];
+        let pairs = &self.tables.pairs[..head.pairs];
+        let before = 1 + activities.len() + pairs.len();
+        TextLines {
+            capacities: Some(capacities_line(&head)),
+            resources: head.resources,
+            activities,
+            pairs,
+            trailer: Some(trailer_line(before)),
+        }
     }
-    at
+
+    fn length(self) -> usize
+        ensures { result ≡ length (text_of self.entry) }
+    {
+        self.lines().map(|line| line.text().len()).sum()
+    }
+
+    fn write(self, out: &mut [u8]) -> usize
+        requires { length (text_of self) ≤ length out.old }
+        ensures { PutAt out.old out.new 0 result (text_of self.entry) }
+    {
+        let mut page = Page::new(out);
+        for line in self.lines() {
+            page.write_bytes(line.text().as_slice());
+        }
+        page.at
+    }
 }
 
 // Writes the text of the project into the front of the lent bytes, and answers its length. A refusal writes nothing.
-pub fn write(
-    head: &Head,
-    activities: &[Activity],
-    pairs: &[Pair],
-    out: &mut [u8],
-) -> Result<usize, Refusal>
-    ensures value { answer result ≡ writing head.now activities.now pairs.now out.old }
-    ensures after { out.new ≡ bytes_after (writing head.now activities.now pairs.now out.old) (written 0 (project_of head.now activities.now pairs.now)) out.old }
-    ensures rules { (answer result ≡ Err (refused 8 0)) ↔ (Sound head.now activities.now pairs.now → ⊥) }
-    ensures book { WritesBook (project_of head.now activities.now pairs.now) result out.new }
-    ensures read { ReadsBack (project_of head.now activities.now pairs.now) result out.new }
+pub fn write(tables: Tables<'_>, out: &mut [u8]) -> Result<usize, Refusal>
+    ensures value { answer result ≡ writing tables.entry.head tables.entry.activities.now tables.entry.pairs.now out.old }
+    ensures after { out.new ≡ bytes_after (writing tables.entry.head tables.entry.activities.now tables.entry.pairs.now out.old) (written 0 (project_of tables.entry.head tables.entry.activities.now tables.entry.pairs.now)) out.old }
+    ensures rules { (answer result ≡ Err (refused 8 0)) ↔ (Sound tables.entry.head tables.entry.activities.now tables.entry.pairs.now → ⊥) }
+    ensures book { WritesBook (project_of tables.entry.head tables.entry.activities.now tables.entry.pairs.now) result out.new }
+    ensures read { ReadsBack (project_of tables.entry.head tables.entry.activities.now tables.entry.pairs.now) result out.new }
 {
-    if !keeps_rules(head, activities, pairs) {
+    if !tables.keeps_rules() {
         return Err(Refusal::RulesBroken);
     }
-    if text_length(head, activities, pairs) > out.len() {
+    let text = Text { tables };
+    if text.length() > out.len() {
         return Err(Refusal::ShortBuffer);
     }
-    Ok(write_text(head, activities, pairs, out))
+    Ok(text.write(out))
 }

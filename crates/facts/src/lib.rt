@@ -16,8 +16,7 @@ mod sink_tests;
 #[cfg(test)]
 mod tests {
     use project::refusal::Refusal;
-    use project::rules::keeps_rules;
-    use project::tables::{Activity, Head, Kind, Pair};
+    use project::tables::{Activity, Head, Kind, Pair, Tables};
     use std::test::Fail;
 
     // Two activities on one stage, the first before the second.
@@ -52,6 +51,12 @@ mod tests {
         },
     ];
 
+    const TABLES: Tables<'static> = Tables {
+        head: HEAD,
+        activities: &ACTIVITIES,
+        pairs: &PAIRS,
+    };
+
     // The text of that project.
     const TEXT: &[u8] = b"C 3\nJ 60 3\nJ 0 1\nA 1 2\nZ 0 4\n";
 
@@ -70,14 +75,14 @@ mod tests {
 
     #[test]
     fn rules_are_kept(rt: HostRuntime) {
-        assert!(rt; keeps_rules(&HEAD, &ACTIVITIES, &PAIRS));
+        assert!(rt; TABLES.keeps_rules());
     }
 
     // A record past the head's count is not looked at, and one within it is.
     #[test]
     fn blank_pair_breaks_the_rules(rt: HostRuntime) {
         let head = Head { pairs: 2, ..HEAD };
-        assert!(rt; !keeps_rules(&head, &ACTIVITIES, &PAIRS));
+        assert!(rt; !Tables { head, ..TABLES }.keeps_rules());
     }
 
     #[test]
@@ -87,20 +92,20 @@ mod tests {
             capacities: [0; 4],
             ..HEAD
         };
-        assert!(rt; !keeps_rules(&head, &ACTIVITIES, &PAIRS));
+        assert!(rt; !Tables { head, ..TABLES }.keeps_rules());
     }
 
     #[test]
     fn text_fits_exactly(rt: HostRuntime) {
         let mut out = [7; 29];
-        assert_eq!(rt; book::write(&HEAD, &ACTIVITIES, &PAIRS, &mut out), Ok(29));
+        assert_eq!(rt; book::write(TABLES, &mut out), Ok(29));
         assert_eq!(rt; &out[..], TEXT);
     }
 
     #[test]
     fn bytes_past_the_text_stay(rt: HostRuntime) {
         let mut out = [7; 32];
-        assert_eq!(rt; book::write(&HEAD, &ACTIVITIES, &PAIRS, &mut out), Ok(29));
+        assert_eq!(rt; book::write(TABLES, &mut out), Ok(29));
         assert_eq!(rt; &out[0..29], TEXT);
         assert_eq!(rt; &out[29..32], [7, 7, 7].as_slice());
     }
@@ -109,7 +114,7 @@ mod tests {
     fn one_byte_too_few_writes_nothing(rt: HostRuntime) {
         let mut out = [7; 28];
         assert_eq!(rt;
-            book::write(&HEAD, &ACTIVITIES, &PAIRS, &mut out),
+            book::write(TABLES, &mut out),
             Err(Refusal::ShortBuffer)
         );
         assert_eq!(rt; &out[..], [7; 28].as_slice());
@@ -120,7 +125,7 @@ mod tests {
         let mut out = [7; 32];
         let head = Head { pairs: 2, ..HEAD };
         assert_eq!(rt;
-            book::write(&head, &ACTIVITIES, &PAIRS, &mut out),
+            book::write(Tables { head, ..TABLES }, &mut out),
             Err(Refusal::RulesBroken)
         );
         assert_eq!(rt; &out[..], [7; 32].as_slice());

@@ -3,32 +3,21 @@ ghost use Rattle.std.specs.Prelude.{◌≡◌, vec_len};
 ghost use Rattle.sinks.specs.Batches.{held, taking_all};
 ghost use Rattle.sinks.specs.Calls.{verdict};
 ghost use Rattle.sinks.specs.Judges.{no_cost};
-ghost use Rattle.stores.specs.Cells.{cell_script};
-ghost use Rattle.stores.specs.Texts.{text_script};
 ghost use Rattle.facts.specs.Runs.{Held, Met, spelled_cost};
 
 use project::refusal::Refusal;
 use sinks::batch::add_all;
 use sinks::judge::Judge;
-use stores::cells::CellSink;
-use stores::text::TextSink;
+use stores::spelling::Spelling;
+use stores::store::Store;
 
-pub fn run_cells(memory: Vec<i32>, clauses: &[&[i32]]) -> (Result<(), Refusal>, Vec<i32>)
-    ensures answer { verdict result.0 ≡ taking_all (held clauses.now) (spelled_cost cell_script) 0 (vec_len memory) }
-    ensures memory { Held cell_script (vec_len memory) (held clauses.now) result.0 result.1.items }
+pub fn run_store<S: Spelling>(memory: Vec<S::Element>, clauses: &[&[i32]]) -> (Result<(), Refusal>, Vec<S::Element>)
+    ensures answer { verdict result.0 ≡ taking_all (held clauses.now) (spelled_cost S.script) 0 (vec_len memory) }
+    ensures memory { Held S.script (vec_len memory) (held clauses.now) result.0 result.1.items }
 {
-    let mut sink = CellSink::new(memory);
+    let mut sink = Store::<S>::new(memory);
     let answer = add_all(&mut sink, clauses);
-    (answer, sink.into_cells())
-}
-
-pub fn run_text(memory: Vec<u8>, clauses: &[&[i32]]) -> (Result<(), Refusal>, Vec<u8>)
-    ensures answer { verdict result.0 ≡ taking_all (held clauses.now) (spelled_cost text_script) 0 (vec_len memory) }
-    ensures memory { Held text_script (vec_len memory) (held clauses.now) result.0 result.1.items }
-{
-    let mut sink = TextSink::new(memory);
-    let answer = add_all(&mut sink, clauses);
-    (answer, sink.into_bytes())
+    (answer, sink.into_memory())
 }
 
 pub fn run_judge(values: &[u8], clauses: &[&[i32]]) -> Result<bool, Refusal>

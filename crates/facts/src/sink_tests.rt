@@ -84,7 +84,7 @@ fn cells_of_two_clauses(rt: HostRuntime) -> Result<(), Fail> {
     assert_eq!(rt; sink.count(), 2);
     assert_eq!(rt; sink.room(), 3);
     assert_eq!(rt;
-        &sink.into_cells()[..],
+        &sink.into_memory()[..],
         [5, -17, 0, 3, 0, 0, 0, 0].as_slice()
     );
     Ok(())
@@ -95,7 +95,7 @@ fn the_last_cell_is_used(rt: HostRuntime) -> Result<(), Fail> {
     let mut sink = CellSink::new(vec![in rt.alloc(); 7; 5]?);
     assert_eq!(rt; add_all(&mut sink, &[FIRST, SECOND]), Ok(()));
     assert_eq!(rt; sink.room(), 0);
-    assert_eq!(rt; &sink.into_cells()[..], [5, -17, 0, 3, 0].as_slice());
+    assert_eq!(rt; &sink.into_memory()[..], [5, -17, 0, 3, 0].as_slice());
     Ok(())
 }
 
@@ -109,7 +109,7 @@ fn one_cell_too_few_leaves_zeros(rt: HostRuntime) -> Result<(), Fail> {
     assert!(rt; !sink.is_open());
     assert_eq!(rt; sink.count(), 0);
     assert_eq!(rt; sink.room(), 4);
-    assert_eq!(rt; &sink.into_cells()[..], [0, 0, 0, 0].as_slice());
+    assert_eq!(rt; &sink.into_memory()[..], [0, 0, 0, 0].as_slice());
     Ok(())
 }
 
@@ -121,7 +121,7 @@ fn a_refused_clause_leaves_the_batch(rt: HostRuntime) -> Result<(), Fail> {
         Ok((Ok(()), Err(Refusal::NoRoom(0))))
     );
     assert_eq!(rt; sink.count(), 1);
-    assert_eq!(rt; &sink.into_cells()[..], [5, -17, 0, 0].as_slice());
+    assert_eq!(rt; &sink.into_memory()[..], [5, -17, 0, 0].as_slice());
     Ok(())
 }
 
@@ -132,7 +132,7 @@ fn a_struck_batch_leaves_what_was_kept(rt: HostRuntime) -> Result<(), Fail> {
     assert_eq!(rt; strike_one(&mut sink, FIRST), Ok(()));
     assert_eq!(rt; sink.count(), 1);
     assert_eq!(rt; sink.room(), 4);
-    assert_eq!(rt; &sink.into_cells()[..], [3, 0, 0, 0, 0, 0].as_slice());
+    assert_eq!(rt; &sink.into_memory()[..], [3, 0, 0, 0, 0, 0].as_slice());
     Ok(())
 }
 
@@ -142,7 +142,7 @@ fn no_cells_at_all(rt: HostRuntime) -> Result<(), Fail> {
     let mut sink = CellSink::new(vec![in rt.alloc(); 7; 0]?);
     assert_eq!(rt; strike_one(&mut sink, &[0]), Err(Refusal::NotAClause));
     assert_eq!(rt; strike_one(&mut sink, SECOND), Err(Refusal::NoRoom(0)));
-    assert_eq!(rt; sink.into_cells().len(), 0);
+    assert_eq!(rt; sink.into_memory().len(), 0);
     Ok(())
 }
 
@@ -153,7 +153,7 @@ fn bytes_of_two_clauses(rt: HostRuntime) -> Result<(), Fail> {
     assert_eq!(rt; sink.count(), 2);
     assert_eq!(rt; sink.room(), 2);
     assert_eq!(rt;
-        &sink.into_bytes()[..],
+        &sink.into_memory()[..],
         b"h 5 -17 0\nh 3 0\n\0\0".as_slice()
     );
     Ok(())
@@ -163,7 +163,7 @@ fn bytes_of_two_clauses(rt: HostRuntime) -> Result<(), Fail> {
 fn the_last_byte_is_used(rt: HostRuntime) -> Result<(), Fail> {
     let mut sink = TextSink::new(vec![in rt.alloc(); 7; 16]?);
     assert_eq!(rt; add_all(&mut sink, &[FIRST, SECOND]), Ok(()));
-    assert_eq!(rt; &sink.into_bytes()[..], b"h 5 -17 0\nh 3 0\n".as_slice());
+    assert_eq!(rt; &sink.into_memory()[..], b"h 5 -17 0\nh 3 0\n".as_slice());
     Ok(())
 }
 
@@ -174,7 +174,7 @@ fn one_byte_too_few_leaves_zeros(rt: HostRuntime) -> Result<(), Fail> {
         add_all(&mut sink, &[FIRST, SECOND]),
         Err(Refusal::NoRoom(0))
     );
-    assert_eq!(rt; &sink.into_bytes()[..], [0; 15].as_slice());
+    assert_eq!(rt; &sink.into_memory()[..], [0; 15].as_slice());
     Ok(())
 }
 
@@ -184,7 +184,7 @@ fn a_struck_line_leaves_the_kept_one(rt: HostRuntime) -> Result<(), Fail> {
     assert_eq!(rt; add_all(&mut sink, &[SECOND]), Ok(()));
     assert_eq!(rt; strike_one(&mut sink, FIRST), Ok(()));
     assert_eq!(rt;
-        &sink.into_bytes()[..],
+        &sink.into_memory()[..],
         b"h 3 0\n\0\0\0\0\0\0\0\0\0\0\0\0".as_slice()
     );
     Ok(())
@@ -195,7 +195,7 @@ fn the_longest_literals(rt: HostRuntime) -> Result<(), Fail> {
     let mut sink = TextSink::new(vec![in rt.alloc(); 7; 24]?);
     assert_eq!(rt; add_all(&mut sink, &[&[-99_999_999, 99_999_999]]), Ok(()));
     assert_eq!(rt;
-        &sink.into_bytes()[..],
+        &sink.into_memory()[..],
         b"h -99999999 99999999 0\n\0".as_slice()
     );
     Ok(())

@@ -1,4 +1,4 @@
-// Numbers in base ten, as bytes, and bytes written at a place of lent ones.
+// Numbers in base ten, as bytes, and bytes written one piece after another into lent ones.
 #![tactic(auto)]
 
 ghost use Rattle.std.specs.Prelude.{◌≡◌, ◌≤◌, [], ◌∷◌, length};
@@ -14,27 +14,48 @@ pub fn number_length<I: Integer>(number: I) -> usize
     Buffer::new().format(number).len()
 }
 
-// Each of the functions that write does so at a place, and answers the place after what it wrote. Where there is no room, it writes nothing and
-// answers the place that it was given.
-pub fn write_bytes(out: &mut [u8], at: usize, bytes: &[u8]) -> usize
-    ensures { PutIfRoom out.old out.new at result bytes.now }
-{
-    if at > out.len() || out.len() - at < bytes.len() {
-        return at;
+// Lent bytes, and the place in them up to which they are written.
+#[derive(Drop)]
+pub struct Page<'a> {
+    pub bytes: &'a mut [u8],
+    pub at: usize,
+    ghost within: { at ≤ length bytes.now },
+}
+
+impl<'a> Page<'a> {
+    pub fn new(bytes: &'a mut [u8]) -> Page<'a>
+        ensures same_reference { result.bytes.ghost_name ≡ bytes.entry.ghost_name }
+        ensures bytes { result.bytes.now ≡ bytes.old }
+        ensures place { result.at ≡ 0 }
+    {
+        Page { bytes, at: 0 }
     }
-    let end = at + bytes.len();
-    out[at..end].copy_from_slice(bytes);
-    end
-}
 
-pub fn write_byte(out: &mut [u8], at: usize, byte: u8) -> usize
-    ensures { PutIfRoom out.old out.new at result (byte ∷ []) }
-{
-    write_bytes(out, at, &[byte])
-}
+    // Each of these writes a piece, and moves the place after it. Where there is no room, it writes nothing and the place stays: no Result, which
+    // callers who see to the room first would only unwrap.
+    pub fn write_bytes(&mut self, piece: &[u8])
+        ensures same_reference { self.new.bytes.ghost_name ≡ self.old.bytes.ghost_name }
+        ensures put { PutIfRoom self.old.bytes.now self.new.bytes.now self.old.at self.new.at piece.now }
+    {
+        if piece.len() > self.bytes.len() - self.at {
+            return;
+        }
+        let end = self.at + piece.len();
+        self.bytes[self.at..end].copy_from_slice(piece);
+        self.at = end;
+    }
 
-pub fn write_number<I: Integer>(out: &mut [u8], at: usize, number: I) -> usize
-    ensures { PutIfRoom out.old out.new at result (I.text number) }
-{
-    write_bytes(out, at, Buffer::new().format(number).as_bytes())
+    pub fn write_byte(&mut self, byte: u8)
+        ensures same_reference { self.new.bytes.ghost_name ≡ self.old.bytes.ghost_name }
+        ensures put { PutIfRoom self.old.bytes.now self.new.bytes.now self.old.at self.new.at (byte ∷ []) }
+    {
+        self.write_bytes(&[byte]);
+    }
+
+    pub fn write_number<I: Integer>(&mut self, number: I)
+        ensures same_reference { self.new.bytes.ghost_name ≡ self.old.bytes.ghost_name }
+        ensures put { PutIfRoom self.old.bytes.now self.new.bytes.now self.old.at self.new.at (I.text number) }
+    {
+        self.write_bytes(Buffer::new().format(number).as_bytes());
+    }
 }

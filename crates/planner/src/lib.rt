@@ -6,7 +6,7 @@ ghost use Rattle.project.specs.Project.{most_activities, most_pairs};
 ghost use Rattle.planner.specs.Response.{Responds, Means, Rewrites, response};
 
 use project::refusal::Refusal;
-use project::tables::{Activity, MOST_ACTIVITIES, MOST_PAIRS, Pair};
+use project::tables::{Activity, MOST_ACTIVITIES, MOST_PAIRS, Pair, Tables};
 use std::alloc::Global;
 
 // Reads a book into the tables, and writes it anew, without its cover, into the lent bytes. Answers how many it wrote.
@@ -22,7 +22,12 @@ fn rewrite(
     ensures { Rewrites (response text.now) out.old result out.new }
 {
     let head = book::read(text, activities, pairs)?;
-    book::write(&head, activities, pairs, out)
+    let tables = Tables {
+        head,
+        activities,
+        pairs,
+    };
+    book::write(tables, out)
 }
 
 // Answers a book written anew without its cover, or why it is refused.

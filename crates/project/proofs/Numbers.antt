@@ -1,9 +1,9 @@
 -- What the tests of the capacities, the demands and the durations say. Assumes nothing.
-use Rattle.std.proofs.Common.{◌≡◌, ℕ, zero, suc, ◌-◌, ◌<◌, ◌≤◌, true, cond, ltb, leb, List, [], ◌∷◌, get_or, Decides, refl, ⊎_elim, arith}
-use Rattle.std.specs.List.{AllByRecursion}
+use Rattle.std.proofs.Common.{take, drop, ◌≡◌, ℕ, zero, suc, ◌<◌, ◌≤◌, true, leb, List, [], ◌∷◌, get_or, Decides, refl, arith}
+use Rattle.std.specs.List.{AllByRecursion, list_all}
 use Rattle.std.proofs.ByRecursion.{All-weaker, Decides-by_and}
-use Rattle.std.proofs.lemmas.Bool.{and_parts, and_from, leb-true, le-leb, cases_lt}
-use Rattle.std.proofs.lemmas.Bool.Decides.{nat_tests, Decides-and, Decides-like}
+use Rattle.std.proofs.lemmas.Bool.{and_parts, and_from, leb-true, le-leb}
+use Rattle.std.proofs.lemmas.Bool.Decides.{Decides-and, Decides-like}
 use Rattle.project.specs.declared.tables.Activity.{Activity}
 use Rattle.project.specs.Project.{most_capacity, most_duration, demand, within, activity_fits, activities_fit, capacities_fit}
 
@@ -42,23 +42,41 @@ decides_activities capacities acts =
     (λ h. all_both Short Light acts h.0 h.1)
     (Decides-by_and (activity_fits capacities) Both (activities_fit capacities) (decides_activity capacities) refl (λ _ _. refl) acts)
 
-limited : (n c : ℕ) → (0 < n → c ≤ most_capacity) → (n ≤ 0 → c ≡ 0) → c ≤ cond (ltb 0 n) most_capacity 0
-limited n c some none = ⊎_elim (λ h. let s = some h in grind (arith, nat_tests)) (λ h. let z = none h in omega arith) (cases_lt 0 n)
+used : (n : ℕ) (cs : List ℕ) → list_all (λ c. leb c most_capacity) (take n cs) ≡ true → (k : ℕ) → k < n → get_or cs k 0 ≤ most_capacity
+used zero cs e k lt = absurd (omega arith)
+used (suc n) [] e k lt = omega arith
+used (suc n) (c ∷ cs) e zero lt = leb-true c most_capacity (and_parts _ _ e).0
+used (suc n) (c ∷ cs) e (suc k) lt = used n cs (and_parts (leb c most_capacity) _ e).1 k (omega arith)
 
-used : (n : ℕ) (cs : List ℕ) → capacities_fit n cs ≡ true → (k : ℕ) → k < n → get_or cs k 0 ≤ most_capacity
-used n [] e k lt = omega arith
-used n (c ∷ cs) e zero lt = let h = leb-true c _ (and_parts _ _ e).0 in grind (arith, nat_tests)
-used n (c ∷ cs) e (suc k) lt = used (n - 1) cs (and_parts (leb c (cond (ltb 0 n) most_capacity 0)) _ e).1 k (omega arith)
+zero_from : (c : ℕ) → c ≤ 0 → c ≡ 0
+zero_from c le = omega arith
 
-unused : (n : ℕ) (cs : List ℕ) → capacities_fit n cs ≡ true → (k : ℕ) → n ≤ k → get_or cs k 0 ≡ 0
-unused n [] e k le = refl
-unused n (c ∷ cs) e zero le = let h = leb-true c _ (and_parts _ _ e).0 in grind (arith, nat_tests)
-unused n (c ∷ cs) e (suc k) le = unused (n - 1) cs (and_parts (leb c (cond (ltb 0 n) most_capacity 0)) _ e).1 k (omega arith)
+zero_to : (c : ℕ) → c ≡ 0 → c ≤ 0
+zero_to c e = omega arith
 
-fit : (n : ℕ) (cs : List ℕ) → ((k : ℕ) → k < n → get_or cs k 0 ≤ most_capacity) → ((k : ℕ) → n ≤ k → get_or cs k 0 ≡ 0) → capacities_fit n cs ≡ true
-fit n [] low none = refl
-fit n (c ∷ cs) low none =
-    and_from _ _ (le-leb c _ (limited n c (low zero) (none zero))) (fit (n - 1) cs (λ k h. low (suc k) (omega arith)) (λ k h. none (suc k) (omega arith)))
+unused : (n : ℕ) (cs : List ℕ) → list_all (λ c. leb c 0) (drop n cs) ≡ true → (k : ℕ) → n ≤ k → get_or cs k 0 ≡ 0
+unused zero [] e k le = refl
+unused (suc n) [] e k le = refl
+unused zero (c ∷ cs) e zero le = zero_from c (leb-true c 0 (and_parts _ _ e).0)
+unused zero (c ∷ cs) e (suc k) le = unused zero cs (and_parts (leb c 0) _ e).1 k (omega arith)
+unused (suc n) (c ∷ cs) e zero le = absurd (omega arith)
+unused (suc n) (c ∷ cs) e (suc k) le = unused n cs e k (omega arith)
+
+fit_used : (n : ℕ) (cs : List ℕ) → ((k : ℕ) → k < n → get_or cs k 0 ≤ most_capacity) → list_all (λ c. leb c most_capacity) (take n cs) ≡ true
+fit_used zero cs low = refl
+fit_used (suc n) [] low = refl
+fit_used (suc n) (c ∷ cs) low =
+    and_from _ _ (le-leb c most_capacity (low zero (omega arith))) (fit_used n cs (λ k h. low (suc k) (omega arith)))
+
+fit_unused : (n : ℕ) (cs : List ℕ) → ((k : ℕ) → n ≤ k → get_or cs k 0 ≡ 0) → list_all (λ c. leb c 0) (drop n cs) ≡ true
+fit_unused zero [] none = refl
+fit_unused (suc n) [] none = refl
+fit_unused zero (c ∷ cs) none =
+    and_from _ _ (le-leb c 0 (zero_to c (none zero (omega arith)))) (fit_unused zero cs (λ k h. none (suc k) (omega arith)))
+fit_unused (suc n) (c ∷ cs) none = fit_unused n cs (λ k h. none (suc k) (omega arith))
 
 pub decides_capacities : (n : ℕ) (cs : List ℕ) → Decides (capacities_fit n cs) (((k : ℕ) → k < n → get_or cs k 0 ≤ most_capacity) × ((k : ℕ) → n ≤ k → get_or cs k 0 ≡ 0))
-decides_capacities n cs = (λ e. (used n cs e, unused n cs e), λ h. fit n cs h.0 h.1)
+decides_capacities n cs = (
+  λ e. let h = and_parts _ _ e in (used n cs h.0, unused n cs h.1),
+  λ h. and_from _ _ (fit_used n cs h.0) (fit_unused n cs h.1),
+)

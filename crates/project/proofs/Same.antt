@@ -1,10 +1,10 @@
 -- The tests of one pair: which pairs are the same, and which are OR pairs into an activity. Assumes nothing.
-use Rattle.std.proofs.Common.{◌≡◌, ℕ, true, false, eqb, Decides, refl, ap, subst, ⊎_elim}
-use Rattle.std.proofs.lemmas.Bool.{false≢true, and_parts, and_from, and_left, and_right, eqb-true, eq-eqb, ne_eqb, cases_Bool}
+use Rattle.std.proofs.Common.{◌≡◌, true, Decides, refl, ap, subst}
+use Rattle.std.proofs.lemmas.Bool.{false≢true, and_parts, and_from, eqb-true, eq-eqb}
 use Rattle.project.specs.declared.tables.Kind.{Kind}
 use Rattle.project.specs.declared.tables.Kind.TheVariants.{Blank, And, Or, Bi}
 use Rattle.project.specs.declared.tables.Pair.{Pair}
-use Rattle.project.specs.Project.{is_or, or_into, same_kind, same_pair}
+use Rattle.project.specs.Project.{same_kind, same_pair}
 
 same_kind_itself : (k : Kind) → same_kind k k ≡ true
 same_kind_itself Blank = refl
@@ -41,26 +41,8 @@ pub same_fields : (q r : Pair) → q.kind ≡ r.kind → q.first ≡ r.first →
 same_fields q r k f s =
     and_from _ _ (subst (λ l. same_kind q.kind l ≡ true) k (same_kind_itself q.kind)) (and_from _ _ (eq-eqb q.first r.first f) (eq-eqb q.second r.second s))
 
-pub unlike_fields : (q r : Pair) → ((q.kind ≡ r.kind) × (q.first ≡ r.first) × (q.second ≡ r.second) → ⊥) → same_pair q r ≡ false
-unlike_fields q r n = ⊎_elim (λ e. absurd (n (fields_same q r e))) (λ e. e) (cases_Bool (same_pair q r))
-
 pub decides_same : (q r : Pair) → Decides (same_pair q r) (q ≡ r)
 decides_same q r = (
   λ e. let h = fields_same q r e in λ i. record { kind = h.0 i; first = h.1 i; second = h.2 i },
   λ e. same_fields q r (ap (λ p. p.kind) e) (ap (λ p. p.first) e) (ap (λ p. p.second) e),
 )
-
-not_or : (k : Kind) → (k ≡ Or → ⊥) → is_or k ≡ false
-not_or Blank n = refl
-not_or And n = refl
-not_or Or n = absurd (n refl)
-not_or Bi n = refl
-
-pub into_yes : (j : ℕ) (q : Pair) → q.kind ≡ Or → q.second ≡ j → or_into j q ≡ true
-into_yes j q k s = and_from _ _ (ap is_or k) (eq-eqb q.second j s)
-
-pub into_other : (j : ℕ) (q : Pair) → (q.second ≡ j → ⊥) → or_into j q ≡ false
-into_other j q n = and_right (is_or q.kind) _ (ne_eqb q.second j n)
-
-pub into_no : (j : ℕ) (q : Pair) → (q.kind ≡ Or → ⊥) → or_into j q ≡ false
-into_no j q n = and_left _ (eqb q.second j) (not_or q.kind n)

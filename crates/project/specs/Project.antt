@@ -1,6 +1,6 @@
 -- A project, as a head and two lent tables give it, and the rules that it keeps. Assumes nothing.
-use Rattle.std.specs.Prelude.{◌≡◌, ℕ, ◌-◌, ◌<◌, ◌≤◌, Bool, true, false, cond, not, ◌&&◌, ◌||◌, List, [], ◌∷◌, ◌++◌, length, take, drop, replicate, count_by, ◌==◌, ◌≢◌, nat_le, nat_lt, slice_index, slice_index_or}
-use Rattle.std.specs.List.{AllByRecursion}
+use Rattle.std.specs.Prelude.{◌≡◌, ℕ, ◌<◌, ◌≤◌, Bool, true, false, not, ◌&&◌, ◌||◌, List, [], ◌∷◌, ◌++◌, length, take, drop, replicate, count_by, ◌==◌, ◌≢◌, nat_le, nat_lt, slice_index, slice_index_or}
+use Rattle.std.specs.List.{AllByRecursion, list_all, list_any}
 use Rattle.project.specs.declared.tables.Activity.{Activity}
 use Rattle.project.specs.declared.tables.Head.{Head}
 use Rattle.project.specs.declared.tables.Kind.{Kind}
@@ -138,8 +138,7 @@ same_pair q r = same_kind q.kind r.kind && (q.first == r.first && q.second == r.
 
 -- r stands among the pairs
 abbrev pub among : Pair → List Pair → Bool
-among r [] = false
-among r (q ∷ qs) = same_pair q r || among r qs
+among r qs = list_any (λ q. same_pair q r) qs
 
 abbrev pub proper : ℕ → Pair → Bool
 proper n q = not (is_blank q.kind) && (nat_le 1 q.first && (nat_lt q.first q.second && nat_le q.second n))
@@ -163,13 +162,11 @@ abbrev pub activity_fits : List ℕ → Activity → Bool
 activity_fits capacities a = nat_le a.duration most_duration && within a.demands capacities
 
 abbrev pub activities_fit : List ℕ → List Activity → Bool
-activities_fit capacities [] = true
-activities_fit capacities (a ∷ acts) = activity_fits capacities a && activities_fit capacities acts
+activities_fit capacities acts = list_all (activity_fits capacities) acts
 
 -- the first n are at most the limit, and the others 0
 abbrev pub capacities_fit : ℕ → List ℕ → Bool
-capacities_fit n [] = true
-capacities_fit n (c ∷ cs) = nat_le c (cond (nat_lt 0 n) most_capacity 0) && capacities_fit (n - 1) cs
+capacities_fit n cs = list_all (λ c. nat_le c most_capacity) (take n cs) && list_all (λ c. nat_le c 0) (drop n cs)
 
 abbrev pub head_fits : Head → List Activity → List Pair → Bool
 head_fits h acts ps =

@@ -65,13 +65,13 @@ impl Refusal {
         ensures { result ≡ place self }
     {
         match self {
-            Refusal::BadForm(place) => place,
-            Refusal::OutOfOrder(place) => place,
-            Refusal::OverLimit(place) => place,
-            Refusal::BadPair(place) => place,
-            Refusal::TooMany(place) => place,
-            Refusal::WrongCount(place) => place,
-            Refusal::NoRoom(place) => place,
+            Refusal::BadForm(place)
+            | Refusal::OutOfOrder(place)
+            | Refusal::OverLimit(place)
+            | Refusal::BadPair(place)
+            | Refusal::TooMany(place)
+            | Refusal::WrongCount(place)
+            | Refusal::NoRoom(place) => place,
             _ => 0,
         }
     }

@@ -1,62 +1,67 @@
 // The rules of a project, tested on a head and two lent tables with any contents.
-ghost use Rattle.std.specs.Prelude.{◌≡◌, T, [], ◌∷◌, ◌++◌, length, Decides};
-ghost use Rattle.std.specs.List.{AllByRecursion};
-ghost use Rattle.project.specs.Project.{Once, Few, most_resources, project_of, Shaped, Sound, sound, head_fits, capacities_fit, activities_fit, activity_fits, within, among, proper, follows, pairs_fit, or_predecessors};
+ghost use Rattle.std.specs.Prelude.{◌≡◌, ◌≤◌, nat_le, T, [], ◌∷◌, ◌++◌, length, Decides};
+ghost use Rattle.std.specs.List.{AllByRecursion, list_all, zip};
+ghost use Rattle.project.specs.Project.{Once, Few, most_resources, project_of, Shaped, Sound, sound, head_fits, capacities_fit, activities_fit, activity_fits, within, proper, follows, pairs_fit, or_predecessors};
 
 use crate::tables::{
     Activity, ActivityNumber, Head, Kind, MOST_ACTIVITIES, MOST_CAPACITY, MOST_DURATION,
-    MOST_OR_PREDECESSORS, MOST_PAIRS, MOST_RESOURCES, Pair,
+    MOST_OR_PREDECESSORS, MOST_PAIRS, MOST_RESOURCES, Pair, Tables,
 };
 
-// Whether the tables keep every rule of a project. Records past the head's counts are not looked at.
-pub fn keeps_rules(head: &Head, activities: &[Activity], pairs: &[Pair]) -> bool
-    ensures value { result ≡ sound head.now activities.now pairs.now }
-    ensures decides { Decides result (Sound head.now activities.now pairs.now) }
-    ensures shaped { T result → Shaped (project_of head.now activities.now pairs.now) }
-{
-    if !head_fits(head, activities, pairs) || !capacities_fit(head.resources, &head.capacities) {
-        return false;
+impl Tables<'_> {
+    // Whether the tables keep every rule of a project. Records past the head's counts are not looked at.
+    pub fn keeps_rules(self) -> bool
+        ensures value { result ≡ sound self.entry.head self.entry.activities.now self.entry.pairs.now }
+        ensures decides { Decides result (Sound self.entry.head self.entry.activities.now self.entry.pairs.now) }
+        ensures shaped { T result → Shaped (project_of self.entry.head self.entry.activities.now self.entry.pairs.now) }
+    {
+        let head = self.head;
+        self.head_fits()
+            && capacities_fit(&head)
+            && activities_fit(&head.capacities, &self.activities[..head.activities])
+            && pairs_fit(head.activities, &self.pairs[..head.pairs])
     }
-    activities_fit(&head.capacities, &activities[0..head.activities])
-        && pairs_fit(head.activities, &pairs[0..head.pairs])
+
+    fn head_fits(self) -> bool
+        ensures { result ≡ head_fits self.entry.head self.entry.activities.now self.entry.pairs.now }
+    {
+        let head = self.head;
+        1 <= head.activities
+            && head.activities <= MOST_ACTIVITIES
+            && head.activities <= self.activities.len()
+            && head.resources <= MOST_RESOURCES
+            && head.pairs <= MOST_PAIRS
+            && head.pairs <= self.pairs.len()
+    }
 }
 
-fn head_fits(head: &Head, activities: &[Activity], pairs: &[Pair]) -> bool
-    ensures { result ≡ head_fits head.now activities.now pairs.now }
+// Whether the capacities are within their limit, and those past the last resource 0.
+fn capacities_fit(head: &Head) -> bool
+    requires { head.now.resources ≤ most_resources }
+    ensures { result ≡ capacities_fit head.now.resources head.now.capacities }
 {
-    1 <= head.activities
-        && head.activities <= MOST_ACTIVITIES
-        && head.activities <= activities.len()
-        && head.resources <= MOST_RESOURCES
-        && head.pairs <= MOST_PAIRS
-        && head.pairs <= pairs.len()
+    let (used, unused) = head.capacities.split_at(head.resources);
+    all_at_most(MOST_CAPACITY, used) && all_at_most(0, unused)
 }
 
-fn capacities_fit(resources: usize, capacities: &[u8]) -> bool
-    ensures { result ≡ capacities_fit resources capacities.now }
+fn all_at_most(limit: u8, numbers: &[u8]) -> bool
+    ensures { result ≡ list_all (λ n. nat_le n limit) numbers.now }
 {
-    for (k, capacity) in capacities.iter().enumerate() {
-        let limit = if k < resources { MOST_CAPACITY } else { 0 };
-        if *capacity > limit {
-            return false;
-        }
-    }
-    true
+    numbers.iter().all(|number| *number <= limit)
 }
 
 // Whether each number is at most the one in its place.
 fn each_within(numbers: &[u8; MOST_RESOURCES], limits: &[u8; MOST_RESOURCES]) -> bool
-    ensures { result ≡ within numbers.now limits.now }
+    ensures { result ≡ list_all (λ p. nat_le p.0 p.1) (zip numbers.now limits.now) }
 {
-    for (k, number) in numbers.iter().enumerate() {
-        if *number > limits[k] {
-            return false;
-        }
-    }
-    true
+    numbers
+        .iter()
+        .zip(limits)
+        .all(|(number, limit)| number <= limit)
 }
 
 // Whether an activity's duration and demands are within their limits.
+#[tactic(auto, using(crate::proofs::Steps::within_zip))]
 fn activity_fits(activity: &Activity, capacities: &[u8; MOST_RESOURCES]) -> bool
     ensures value { result ≡ activity_fits capacities.now activity.now }
     ensures shaped { length activity.now.demands ≡ most_resources }
@@ -68,12 +73,9 @@ fn activities_fit(capacities: &[u8; MOST_RESOURCES], activities: &[Activity]) ->
     ensures value { result ≡ activities_fit capacities.now activities.now }
     ensures shaped { T result → AllByRecursion (λ a. length a.demands ≡ most_resources) activities.now }
 {
-    for activity in activities {
-        if !activity_fits(activity, capacities) {
-            return false;
-        }
-    }
-    true
+    activities
+        .iter()
+        .all(|activity| activity_fits(activity, capacities))
 }
 
 // Whether a pair has a kind and names two of so many activities, the lower first.
@@ -83,30 +85,16 @@ fn is_proper(pair: &Pair, activities: usize) -> bool
     pair.kind != Kind::Blank
         && 1 <= pair.first
         && pair.first < pair.second
-        && pair.second as usize <= activities
-}
-
-fn is_among(pair: &Pair, pairs: &[Pair]) -> bool
-    ensures { result ≡ among pair.now pairs.now }
-{
-    for other in pairs {
-        if *other == *pair {
-            return true;
-        }
-    }
-    false
+        && usize::from(pair.second) <= activities
 }
 
 fn or_predecessors(activity: ActivityNumber, pairs: &[Pair]) -> usize
     ensures { result ≡ or_predecessors activity pairs.now }
 {
-    let mut count = 0;
-    for pair in pairs {
-        if pair.kind == Kind::Or && pair.second == activity {
-            count += 1;
-        }
-    }
-    count
+    pairs
+        .iter()
+        .filter(|pair| pair.kind == Kind::Or && pair.second == activity)
+        .count()
 }
 
 // Whether a pair can follow those before it: it is no repeat, and no OR predecessor too many.
@@ -114,7 +102,7 @@ pub fn can_follow(pair: &Pair, before: &[Pair]) -> bool
     ensures value { result ≡ follows before.now pair.now }
     ensures decides { Once before.now → Few before.now → Decides result (Once (before.now ++ pair.now ∷ []) × Few (before.now ++ pair.now ∷ [])) }
 {
-    !is_among(pair, before)
+    !before.contains(pair)
         && (pair.kind != Kind::Or || or_predecessors(pair.second, before) < MOST_OR_PREDECESSORS)
 }
 
@@ -122,7 +110,7 @@ fn pairs_fit(activities: usize, pairs: &[Pair]) -> bool
     ensures { result ≡ pairs_fit activities [] pairs.now }
 {
     for (q, pair) in pairs.iter().enumerate() {
-        if !is_proper(pair, activities) || !can_follow(pair, &pairs[0..q]) {
+        if !is_proper(pair, activities) || !can_follow(pair, &pairs[..q]) {
             return false;
         }
     }

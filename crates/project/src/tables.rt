@@ -79,3 +79,11 @@ pub struct Head {
     pub capacities: [u8; MOST_RESOURCES],
     pub pairs: usize,
 }
+
+// A project as it stands in two tables: the first records of each are its own, as many as the head says.
+#[derive(Clone, Copy)]
+pub struct Tables<'t> {
+    pub head: Head,
+    pub activities: &'t [Activity],
+    pub pairs: &'t [Pair],
+}

@@ -1,13 +1,14 @@
 -- Clauses added to an open batch, run by run, and the batch closed. Assumes nothing.
-use Rattle.std.proofs.Common.{◌≡◌, ℕ, ◌+◌, true, ◌&&◌, List, [], ◌∷◌, ◌++◌, ℤ, Ok, Err, Result, sym, refl, ap, ◌∙◌, subst, append_assoc, append-nil, arith, length-append}
-use mathlib.Core.Bool.{and_assoc, and-true}
+use Rattle.std.proofs.Common.{◌≡◌, ℕ, ◌+◌, true, List, [], ◌∷◌, ◌++◌, ℤ, Ok, Err, Result, sym, refl, ap, ◌∙◌, subst, append_assoc, append-nil, arith, length-append}
+use mathlib.Core.Bool.{and-true}
 use mathlib.Core.Option.{some}
 use mathlib.Core.Path.{fun_ext}
+use Rattle.std.proofs.lemmas.List.Folds.{list_all-append}
 use Rattle.std.proofs.lemmas.Bool.{and_parts, and_from, cond-true}
 use Rattle.project.specs.declared.refusal.Refusal.{Refusal}
 use Rattle.project.specs.Refusals.{told}
 use Rattle.sinks.specs.declared.sink.Sink.{Ghosts as Members}
-use Rattle.sinks.specs.Clauses.{Assignment, meets, meets_all}
+use Rattle.sinks.specs.Clauses.{meets, meets_all}
 use Rattle.sinks.specs.Meanings.{Meaning, Fixed, Unchanged, Added, is_open, standing}
 use Rattle.sinks.specs.Calls.{Does, Open, Add, Keep, Strike, Settled, Appended, Reverted, Untouched, accepted, no, verdict, taking}
 use Rattle.sinks.specs.Batches.{Stops, AddedAll, Opens, Adds, Keeps, Strikes, Appends, KeepsWhole, StrikesWhole, means, costs, first}
@@ -15,10 +16,6 @@ use Rattle.sinks.proofs.Alike.{batch_trans, open_alike, none_alike, fixed_trans,
 use Rattle.sinks.proofs.Verdicts.{accepted≢refused, passes, avoids, stops_first, taking_accepted, takes_after, takes_same}
 
 -- Two lists in a row.
-
-pub meets_append : (a : Assignment) (xs ys : List (List ℤ)) → meets_all a (xs ++ ys) ≡ (meets_all a xs && meets_all a ys)
-meets_append a [] ys = refl
-meets_append a (x ∷ xs) ys = ap (λ b. meets a x && b) (meets_append a xs ys) ∙ sym (and_assoc (meets a x) (meets_all a xs) (meets_all a ys))
 
 pub costs_append : (cost : List ℤ → ℕ) (xs ys : List (List ℤ)) → costs cost (xs ++ ys) ≡ costs cost xs + costs cost ys
 costs_append cost [] ys = omega arith
@@ -39,8 +36,8 @@ added_append xs ys m n o p q =
     record {
       fixed = fixed_trans p.fixed q.fixed;
       admitted = λ a. (
-        λ h. let b = and_parts (meets_all a xs) (meets_all a ys) (sym (meets_append a xs ys) ∙ h.1) in (q.admitted a).0 ((p.admitted a).0 (h.0, b.0), b.1),
-        λ h. let v = (q.admitted a).1 h in let u = (p.admitted a).1 v.0 in (u.0, meets_append a xs ys ∙ and_from (meets_all a xs) (meets_all a ys) u.1 v.1),
+        λ h. let b = and_parts (meets_all a xs) (meets_all a ys) (sym (list_all-append (meets a) xs ys) ∙ h.1) in (q.admitted a).0 ((p.admitted a).0 (h.0, b.0), b.1),
+        λ h. let v = (q.admitted a).1 h in let u = (p.admitted a).1 v.0 in (u.0, list_all-append (meets a) xs ys ∙ and_from (meets_all a xs) (meets_all a ys) u.1 v.1),
       );
       count = omega arith;
       room = omega arith;
@@ -86,9 +83,6 @@ module _ {S B : Type 0} (g : Members S B) where
         };
         order = λ before since h. subst (g.added t before) (sym (append-nil since)) (q before since h);
       }
-
-  pub adds_none : (s : S) → Adds g [] s s
-  adds_none s = adds_nothing s s (unchanged_refl (means g s)) (λ before since h. h)
 
   pub adds_one : (c : List ℤ) (s t : S) → Add c (Ok tt) (means g s) (means g t) → Appended c (g.added s) (g.added t) → Adds g (c ∷ []) s t
   adds_one c s t p q = record {

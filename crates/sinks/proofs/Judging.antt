@@ -1,25 +1,14 @@
 -- The judge's assignment, literal by literal. Assumes nothing.
-use Rattle.std.proofs.Common.{◌≡◌, ℕ, suc, ◌+◌, ◌-◌, ◌<◌, ◌≤◌, Bool, true, false, not, ◌&&◌, ◌||◌, eqb, ltb, leb, List, [], ◌∷◌, length, get_or, drop, ℤ, pos, negsuc, Ok, sym, refl, ap, ◌∙◌, subst, add-one, arith, drop-cons}
-use lib.Signed.{lt_z}
-use Rattle.std.proofs.lemmas.List.{drop_all, get_or_past}
-use Rattle.std.proofs.lemmas.Bool.{and_parts, leb-true, le-ltb, ltb-false}
-use Rattle.sinks.specs.Clauses.{Assignment, variable, literal, literals, holds, meets, last_variable}
+use Rattle.std.proofs.Common.{◌≡◌, ℕ, suc, Bool, true, not, ◌&&◌, ◌||◌, eqb, leb, List, [], ◌∷◌, length, ℤ, pos, negsuc, Ok, sym, refl, ap, ◌∙◌, subst}
+use Rattle.std.proofs.lemmas.Bool.{and_parts, leb-true}
+use Rattle.sinks.specs.Clauses.{Assignment, literal, literals, holds, meets, last_variable}
 use Rattle.sinks.specs.Calls.{Add, Ends}
 use Rattle.sinks.specs.Judges.{given, Given, GivenIf, judged, no_cost}
 use Rattle.sinks.specs.Ledgers.{charged, may_charge, price}
 use Rattle.sinks.specs.declared.ledger.Ledger.{Ledger}
 use Rattle.sinks.proofs.Alike.{same}
 use Rattle.sinks.proofs.Ledgers.{charges, ends_add}
-use Rattle.sinks.proofs.Literals.{clause_literals}
 use Rattle.sinks.specs.Meanings.{Same}
-
-pub positive : (a : Assignment) (z : ℤ) → lt_z (pos 0) z ≡ true → a (variable z) ≡ holds a z
-positive a (pos v) h = refl
-positive a (negsuc v) h = let z : ◌≡◌ {A = ℕ} 0 1 = cc in absurd (omega arith)
-
-pub negative : (a : Assignment) (z : ℤ) → literal z ≡ true → lt_z (pos 0) z ≡ false → not (a (variable z)) ≡ holds a z
-negative a (pos v) l h = absurd (omega (arith, leb-true 1 v (and_parts (leb 1 v) (leb v last_variable) l).0, ltb-false 0 v h))
-negative a (negsuc v) l h = refl
 
 -- a literal names a variable, so its judge and a known assignment agree on it
 holds_same : (bs : List ℕ) (a : Assignment) (z : ℤ) → Given bs a → literal z ≡ true → holds a z ≡ holds (given bs) z
@@ -43,26 +32,8 @@ adds bs c met l a = (
   λ h. let p = and_parts met (meets (given bs) c) h.1 in ((h.0, p.0), meets_same bs a c h.0 l ∙ p.1),
 )
 
--- A clause gone through from its front, as far as the place i.
-
-pub literals_next : (c : List ℤ) (i : ℕ) → i < length c → literals (drop i c) ≡ true → (literal (get_or c i (pos 0)) ≡ true) × (literals (drop (i + 1) c) ≡ true)
-literals_next c i lt h =
-    let p = and_parts (literal (get_or c i (pos 0))) (literals (drop (suc i) c)) (sym (ap literals (drop-cons c i (pos 0) lt)) ∙ h) in
-    (p.0, ap (λ k. literals (drop k c)) (add-one i) ∙ p.1)
-
-pub meets_next : (a : Assignment) (c : List ℤ) (i : ℕ) (b : Bool) → i < length c → meets a c ≡ meets a (drop i c) → holds a (get_or c i (pos 0)) ≡ b → meets a c ≡ (b || meets a (drop (i + 1) c))
-meets_next a c i b lt so is =
-    so ∙ ap (meets a) (drop-cons c i (pos 0) lt) ∙ ap (λ v. v || meets a (drop (suc i) c)) is ∙ ap (λ k. b || meets a (drop k c)) (sym (add-one i))
-
-pub meets_none : (a : Assignment) (c : List ℤ) (i : ℕ) → length c ≤ i → meets a c ≡ meets a (drop i c) → meets a c ≡ false
-meets_none a c i le so = so ∙ ap (meets a) (drop_all i c le)
-
--- no byte is there for the variable v
-pub missing : (bs : List ℕ) (v : ℕ) → length bs ≤ v - 1 → ltb (v - 1) (length bs) ≡ given bs v
-missing bs v h = le-ltb (v - 1) (length bs) h ∙ ap (λ b. eqb b 1) (sym (get_or_past bs (v - 1) 0 h))
-
 -- a clause that was paid is held against the given assignment
 pub judges : (bs : List ℕ) (c : List ℤ) (met met_before met_c : Bool) (l l' : Ledger) → Ends (Ok (tt {0})) (may_charge (price c 0) l) (l' ≡ charged (price c 0) l) (l' ≡ l) → met_c ≡ meets (given bs) c → Add c (Ok (tt {0})) (judged bs met met_before l) (judged bs (met && met_c) met_before l')
 judges bs c met met_before met_c l l' e is =
-    let good = clause_literals c (charges c 0 l e.answers).clause in
+    let good = (and_parts (not (eqb (length c) 0)) (literals c) (charges c 0 l e.answers).clause).1 in
     subst (λ b. Add c (Ok (tt {0})) (judged bs met met_before l) (judged bs (met && b) met_before l')) (sym is) (ends_add (Given bs) no_cost (GivenIf met bs) (GivenIf (met && meets (given bs) c) bs) (GivenIf met_before bs) (GivenIf met_before bs) c (Ok (tt {0})) l l' e (adds bs c met good, same (GivenIf met_before bs)))

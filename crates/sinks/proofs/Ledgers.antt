@@ -6,11 +6,11 @@ use Rattle.project.specs.declared.refusal.Refusal.{Refusal}
 use Rattle.sinks.specs.declared.ledger.Ledger.{Ledger}
 use Rattle.sinks.specs.declared.ledger.Tally.{Tally}
 use Rattle.sinks.specs.Clauses.{Assignment, clausal, meets}
-use Rattle.sinks.specs.Meanings.{Same, SameBatch, Fixed, Unchanged, Opened, Added, Kept, Struck, New, is_open, standing}
+use Rattle.sinks.specs.Meanings.{Same, SameBatch, Fixed, Unchanged, Opened, Added, Struck, is_open, standing}
 use Rattle.sinks.specs.Calls.{Verdict, Does, Ends, Add, opening, adding, closing, accepted, no, most_clauses}
 use Rattle.sinks.proofs.Alike.{same}
 use Rattle.sinks.proofs.Verdicts.{passes}
-use Rattle.sinks.specs.Ledgers.{fresh, may_open, may_charge, may_close, may_take, price, with_opening, charged, kept, restored, remembered, meaning}
+use Rattle.sinks.specs.Ledgers.{may_open, may_charge, may_close, may_take, price, with_opening, charged, restored, remembered, meaning}
 
 -- a batch is open where the ledger remembers an opening
 remembers : (B : Assignment → Type 0) (o : Option Tally) → is_some o ≡ is_open (remembered B o)
@@ -26,11 +26,6 @@ taken c k t = elim (clausal c) as (λ b. may_take (cond b (Some k) None) t ≡ c
 
 accept : (b : Bool) (x : Verdict) (n : ℕ) → accepted ≡ cond b x (no n) → (b ≡ true) × (accepted ≡ x)
 accept b x n h = let p = passes b x n (sym h) in (p.0, sym p.1)
-
--- what holds both ways needs no look at the answer
-pub either : {X D N : Type 0} (r : Result X Refusal) → D → N → Does r D N
-either (Ok x) d n = d
-either (Err e) d n = n
 
 -- What was accepted.
 
@@ -91,13 +86,6 @@ module _ (K : Assignment → Type 0) (k : List ℤ → ℕ) (A A' B B' : Assignm
     batch = same_batch B B' l.opening b;
   })
 
-  pub keeps : (l l' : Ledger) → l' ≡ kept l → Same A A' → Kept (meaning K A B k l) (meaning K A' B' k l')
-  keeps l l' e a = subst (λ x. Kept (meaning K A B k l) (meaning K A' B' k x)) (sym e) (record {
-    fixed = fixed l (kept l);
-    now = record { admitted = a; count = refl; room = refl };
-    batch = refl;
-  })
-
   back : (now : Tally) (o : Option Tally) → is_some o ≡ true → Same B A' → SameBatch (remembered B o) (some (standing (meaning K A' B' k (restored (record { tally = now; opening = o })))))
   back now None h a = let z : ◌≡◌ {A = ℕ} 0 1 = cc in absurd (omega arith)
   back now (Some t) h a = record { admitted = a; count = refl; room = refl }
@@ -115,6 +103,3 @@ module _ (K : Assignment → Type 0) (k : List ℤ → ℕ) (A A' B B' : Assignm
       let ok = charges c (k c) l e.answers in
       record { answers = e.answers ∙ adding_is c l; does = adds c l l' (e.does ∙ ok.ledger) ok.room s.0 s.1 }
   ends_add c (Err x) l l' e s = record { answers = e.answers ∙ adding_is c l; does = unchanged l l' e.does s.0 s.1 }
-
-pub starts : (K B : Assignment → Type 0) (k : List ℤ → ℕ) (n : ℕ) (A : Assignment → Type 0) → Same K A → New n (meaning K A B k (fresh n))
-starts K B k n A a = record { admitted = a; count = refl; room = refl; batch = refl }

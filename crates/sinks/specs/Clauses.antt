@@ -1,5 +1,6 @@
 -- Assignments, literals and clauses. Assumes nothing.
-use Rattle.std.specs.Prelude.{ℕ, suc, Bool, true, false, not, ◌&&◌, ◌||◌, List, [], ◌∷◌, ℤ, pos, negsuc, nat_le, unsigned_abs}
+use Rattle.std.specs.Prelude.{ℕ, suc, Bool, not, ◌&&◌, List, length, ℤ, pos, negsuc, ◌==◌, nat_le, unsigned_abs}
+use Rattle.std.specs.List.{list_all, list_any}
 
 -- the variables are 1 to this one
 abbrev pub last_variable : ℕ
@@ -17,13 +18,11 @@ abbrev pub literal : ℤ → Bool
 literal l = nat_le 1 (variable l) && nat_le (variable l) last_variable
 
 abbrev pub literals : List ℤ → Bool
-literals [] = true
-literals (l ∷ ls) = literal l && literals ls
+literals = list_all literal
 
 -- a clause is one literal or more
 abbrev pub clausal : List ℤ → Bool
-clausal [] = false
-clausal (l ∷ ls) = literals (l ∷ ls)
+clausal c = not (length c == 0) && literals c
 
 -- v is true where the assignment makes v true, and -v where it does not
 abbrev pub holds : Assignment → ℤ → Bool
@@ -32,15 +31,12 @@ holds a (negsuc v) = not (a (suc v))
 
 -- it makes one of the literals true
 abbrev pub meets : Assignment → List ℤ → Bool
-meets a [] = false
-meets a (l ∷ ls) = holds a l || meets a ls
+meets a = list_any (holds a)
 
 -- it meets each of the clauses
 abbrev pub meets_all : Assignment → List (List ℤ) → Bool
-meets_all a [] = true
-meets_all a (c ∷ cs) = meets a c && meets_all a cs
+meets_all a = list_all (meets a)
 
 -- each of them is a clause
 abbrev pub clauses : List (List ℤ) → Bool
-clauses [] = true
-clauses (c ∷ cs) = clausal c && clauses cs
+clauses = list_all clausal

@@ -10,27 +10,19 @@ pub const LAST_VARIABLE: i32 = 99_999_999;
 pub fn is_literal(number: i32) -> bool
     ensures { result ≡ literal number }
 {
-    number != 0 && number >= -LAST_VARIABLE && number <= LAST_VARIABLE
+    number != 0 && (-LAST_VARIABLE..=LAST_VARIABLE).contains(&number)
 }
 
 // Whether these are literals, and at least one.
 pub fn is_clause(numbers: &[i32]) -> bool
     ensures { result ≡ clausal numbers.now }
 {
-    if numbers.is_empty() {
-        return false;
-    }
-    for number in numbers {
-        if !is_literal(*number) {
-            return false;
-        }
-    }
-    true
+    !numbers.is_empty() && numbers.iter().all(|number| is_literal(*number))
 }
 
 // The cost of a clause; what is no clause has none.
 pub fn price(numbers: &[i32], cost: usize) -> Option<usize>
     ensures { result ≡ price numbers.now cost }
 {
-    if is_clause(numbers) { Some(cost) } else { None }
+    is_clause(numbers).then_some(cost)
 }

@@ -1,6 +1,6 @@
 // A sink that holds clauses against one assignment.
-ghost use Rattle.std.specs.Prelude.{◌≡◌, ◌≤◌, true, ◌↔◌};
-ghost use Rattle.sinks.specs.Clauses.{holds, literal, literals, meets};
+ghost use Rattle.std.specs.Prelude.{◌≡◌, true, ◌↔◌};
+ghost use Rattle.sinks.specs.Clauses.{holds, meets};
 ghost use Rattle.sinks.specs.Judges.{given, judged};
 ghost use Rattle.sinks.specs.Meanings.{New};
 
@@ -13,7 +13,8 @@ use project::refusal::Refusal;
 #[derive(Drop)]
 pub struct Judge<'a> {
     values: &'a [u8],
-    // Whether the assignment meets all clauses, and whether it did when the batch was opened.
+    // Whether the assignment meets all clauses, and whether it did when the batch was opened. That stands beside the ledger's opening, for the other
+    // sinks have nothing that the ledger would remember for them.
     met: bool,
     met_before: bool,
     ledger: Ledger,
@@ -70,7 +71,7 @@ impl<'a> Sink for Judge<'a> {
 
     fn add(&mut self, clause: &[i32]) -> Result<(), Refusal> {
         self.ledger.charge(price(clause, 0))?;
-        self.met = self.met & is_met(self.values, clause);
+        self.met &= is_met(self.values, clause);
         Ok(())
     }
 
@@ -101,31 +102,21 @@ impl<'a> Sink for Judge<'a> {
 
 // Whether the assignment makes a variable true.
 fn value(values: &[u8], variable: usize) -> bool
-    requires { 1 ≤ variable }
     ensures { result ≡ given values.now variable }
 {
-    let at = variable - 1;
-    at < values.len() && values[at] == 1
+    values.get(variable.saturating_sub(1)) == Some(&1)
 }
 
-// Whether the assignment makes a literal true.
+// Whether the assignment makes a literal true. Rust has no `usize::from` of a `u32`.
 fn is_true(values: &[u8], number: i32) -> bool
-    requires { literal number ≡ true }
     ensures { result ≡ holds (given values.now) number }
 {
-    let value = value(values, number.unsigned_abs() as usize);
-    if number > 0 { value } else { !value }
+    value(values, number.unsigned_abs() as usize) == (number >= 0)
 }
 
 // Whether the assignment makes one of the literals true.
 fn is_met(values: &[u8], clause: &[i32]) -> bool
-    requires { literals clause.now ≡ true }
     ensures { result ≡ meets (given values.now) clause.now }
 {
-    for number in clause {
-        if is_true(values, *number) {
-            return true;
-        }
-    }
-    false
+    clause.iter().any(|number| is_true(values, *number))
 }

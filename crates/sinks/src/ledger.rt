@@ -70,9 +70,7 @@ impl Ledger {
         if self.opening.is_none() {
             return Err(Refusal::NoBatch);
         }
-        let Some(cost) = cost else {
-            return Err(Refusal::NotAClause);
-        };
+        let cost = cost.ok_or(Refusal::NotAClause)?;
         let Tally { count, free } = self.tally;
         if cost > free || count >= MOST_CLAUSES {
             return Err(Refusal::NoRoom(0));
@@ -88,10 +86,7 @@ impl Ledger {
     pub fn keep(&mut self) -> Result<(), Refusal>
         ensures { Ends result (may_close self.old) (self.new ≡ kept self.old) (self.new ≡ self.old) }
     {
-        if self.opening.is_none() {
-            return Err(Refusal::NoBatch);
-        }
-        self.opening = None;
+        self.opening.take().ok_or(Refusal::NoBatch)?;
         Ok(())
     }
 
@@ -99,11 +94,7 @@ impl Ledger {
     pub fn strike(&mut self) -> Result<(), Refusal>
         ensures { Ends result (may_close self.old) (self.new ≡ restored self.old) (self.new ≡ self.old) }
     {
-        let Some(tally) = self.opening else {
-            return Err(Refusal::NoBatch);
-        };
-        self.tally = tally;
-        self.opening = None;
+        self.tally = self.opening.take().ok_or(Refusal::NoBatch)?;
         Ok(())
     }
 }

@@ -1,90 +1,40 @@
--- The line of a clause, priced and written. Assumes nothing.
-use Rattle.std.proofs.Common.{◌≡◌, ℕ, ◌+◌, ◌-◌, ◌^◌, ◌<◌, ◌≤◌, min, Bool, true, false, cond, ◌&&◌, ltb, leb, List, [], ◌∷◌, ◌++◌, length, get_or, take, ℤ, pos, negsuc, nat_abs, is_some, Some, None, Ok, Err, decimal, Option, Result, sym, refl, ap, ◌∙◌, append_assoc, arith}
-use lib.Seq.{paste}
-use lib.Signed.{lt_z}
-use Rattle.std.specs.List.{flat_map}
-use Rattle.std.proofs.lemmas.List.{length-append, take_all}
-use Rattle.std.proofs.lemmas.Int.{ints}
-use Rattle.std.proofs.lemmas.Bool.{leb-true, leb-false, le-leb, lt-leb}
-use Rattle.numerals.specs.Puts.{put, PutAt, PutIfRoom}
-use Rattle.numerals.proofs.Writing.{pieces_more, put_more, put_then}
-use Rattle.project.specs.declared.refusal.Refusal.{Refusal}
-use Rattle.sinks.specs.Calls.{Ends, accepted, no, most_clauses}
-use Rattle.sinks.specs.Clauses.{clausal}
-use Rattle.sinks.specs.Ledgers.{price, may_take, may_charge, charged}
-use Rattle.sinks.specs.declared.ledger.Ledger.{Ledger}
-use Rattle.sinks.proofs.Ledgers.{charges}
-use Rattle.stores.specs.Texts.{lf, space, hard, zero_digit, spaced, line}
+-- The line of a clause, summed up and written. Assumes nothing.
+use Rattle.std.proofs.Common.{◌≡◌, ℕ, ◌+◌, ◌-◌, ◌^◌, ◌<◌, ◌≤◌, min, List, [], ◌∷◌, ◌++◌, length, get_or, drop, map, ℤ, pos, sym, ap, ◌∙◌, append_assoc, add-one, arith, length-append, drop-cons}
+use Rattle.std.specs.List.{flat_map, fold}
+use Rattle.std.proofs.lemmas.List.{drop_all}
+use Rattle.std.specs.Fmt.{signed_decimal}
+use Rattle.stores.specs.Texts.{lf, space, zero_digit, spaced, line}
 
 pub line_length : (c : List ℤ) → length (line c) ≡ 4 + length (flat_map spaced c)
 line_length c = omega (arith, length-append (flat_map spaced c) (space ∷ zero_digit ∷ lf ∷ []))
 
--- Its price.
+-- a sum, if it fits
+abbrev pub add : ℕ → ℕ → ℕ
+add n k = min (n + k) (2 ^ 64 - 1)
 
-pub no_price : (c : List ℤ) (n : ℕ) → false ≡ clausal c → None ≡ price c n
-no_price c n h = ap (λ b. cond b (Some n) None) h
+abbrev pub spaced_length : ℤ → ℕ
+spaced_length l = length (spaced l)
 
--- the length as far as the literals before the place i go, if it fits
-abbrev pub Counted : List ℤ → (i n : ℕ) → Type 0
-Counted c i n = n ≡ min (4 + length (flat_map spaced (take i c))) (2 ^ 64 - 1)
-
-pub price_more : (c : List ℤ) (i n k m : ℕ) → i < length c → Counted c i n → k ≡ length (spaced (get_or c i (pos 0))) → m ≡ min (n + k) (2 ^ 64 - 1) → Counted c (i + 1) m
-price_more c i n k m lt so one e =
-    let more = ap length (pieces_more spaced c i (pos 0) lt) ∙ length-append (flat_map spaced (take i c)) (spaced (get_or c i (pos 0))) in
+summed : (n : ℕ) (c : List ℤ) → n ≤ 2 ^ 64 - 1 → fold add n (map spaced_length c) ≡ min (n + length (flat_map spaced c)) (2 ^ 64 - 1)
+summed n [] le = omega arith
+summed n (l ∷ ls) le =
+    let rest = summed (add n (spaced_length l)) ls (omega arith) in
+    let long = length-append (spaced l) (flat_map spaced ls) in
     omega arith
 
-pub price_all : (c : List ℤ) (i n : ℕ) → clausal c ≡ true → length c ≤ i → Counted c i n → Some n ≡ price c (min (length (line c)) (2 ^ 64 - 1))
-price_all c i n h le so =
-    let long = line_length c in
-    let whole = ap (λ l. length (flat_map spaced l)) (take_all i c le) in
-    let is : n ≡ min (length (line c)) (2 ^ 64 - 1) = omega arith in
-    ap Some is ∙ ap (λ b. cond b (Some (min (length (line c)) (2 ^ 64 - 1))) None) (sym h)
+pub sum_is : (c : List ℤ) → fold add 4 (map spaced_length c) ≡ min (length (line c)) (2 ^ 64 - 1)
+sum_is c = summed 4 c (omega arith) ∙ ap (λ n. min n (2 ^ 64 - 1)) (sym (line_length c))
 
--- a room that is below the largest number tells the price from the length nowhere
-may_charge_same : (c : List ℤ) (k : ℕ) (l : Ledger) → l.tally.free < 2 ^ 64 - 1 → may_charge (price c (min k (2 ^ 64 - 1))) l ≡ may_charge (price c k) l
-may_charge_same c k l lt = ap (λ v. cond (is_some l.opening) v (no 23)) (takes (clausal c))
-  where
-    fits : (b : Bool) → leb k l.tally.free ≡ b → leb (min k (2 ^ 64 - 1)) l.tally.free ≡ b
-    fits true e = le-leb _ _ (omega (arith, leb-true k l.tally.free e))
-    fits false e = lt-leb _ _ (omega (arith, leb-false k l.tally.free e))
+-- Its bytes, one piece after another.
 
-    takes : (b : Bool) → may_take (cond b (Some (min k (2 ^ 64 - 1))) None) l.tally ≡ may_take (cond b (Some k) None) l.tally
-    takes true = ap (λ b. cond (b && ltb l.tally.count most_clauses) accepted (no 16)) (fits (leb k l.tally.free) refl)
-    takes false = refl
+-- what follows the literals before the one at i
+abbrev pub line_from : List ℤ → ℕ → List ℕ
+line_from c i = flat_map spaced (drop i c) ++ space ∷ zero_digit ∷ lf ∷ []
 
-pub charges_length : (r : Result (Unit {0}) Refusal) (c : List ℤ) (p : Option ℕ) (l l' : Ledger) → p ≡ price c (min (length (line c)) (2 ^ 64 - 1)) → l.tally.free < 2 ^ 64 - 1 → Ends r (may_charge p l) (l' ≡ charged p l) (l' ≡ l) → Ends r (may_charge (price c (length (line c))) l) (l' ≡ charged (price c (length (line c))) l) (l' ≡ l)
-charges_length (Ok x) c p l l' priced lt h =
-    let room = (charges c (min (length (line c)) (2 ^ 64 - 1)) l (h.answers ∙ ap (λ q. may_charge q l) priced)).room in
-    let k : min (length (line c)) (2 ^ 64 - 1) ≡ length (line c) = omega arith in
-    let e = priced ∙ ap (price c) k in
-    record { answers = h.answers ∙ ap (λ q. may_charge q l) e; does = h.does ∙ ap (λ q. charged q l) e }
-charges_length (Err y) c p l l' priced lt h = record {
-  answers = h.answers ∙ ap (λ q. may_charge q l) priced ∙ may_charge_same c (length (line c)) l lt;
-  does = h.does;
-}
+pub next_literal : (c : List ℤ) (i : ℕ) → i < length c → line_from c i ≡ (space ∷ []) ++ (signed_decimal (get_or c i (pos 0)) ++ line_from c (i + 1))
+next_literal c i lt =
+    ap (λ l. flat_map spaced l ++ space ∷ zero_digit ∷ lf ∷ []) (drop-cons c i (pos 0) lt ∙ ap (λ n. get_or c i (pos 0) ∷ drop n c) (sym (add-one i)))
+    ∙ ap (λ l. space ∷ l) (append_assoc (signed_decimal (get_or c i (pos 0))) (flat_map spaced (drop (i + 1) c)) (space ∷ zero_digit ∷ lf ∷ []))
 
--- Its bytes.
-
-pub negative : (l : ℤ) (n : ℕ) → lt_z l (pos 0) ≡ true → n ≡ nat_abs l → space ∷ 45 ∷ decimal n ≡ spaced l
-negative (pos k) n lt e = absurd (omega (arith, ints))
-negative (negsuc k) n lt e = ap (λ m. space ∷ 45 ∷ decimal m) e
-
-pub positive : (l : ℤ) (n : ℕ) → lt_z l (pos 0) ≡ false → n ≡ nat_abs l → space ∷ decimal n ≡ spaced l
-positive (pos k) n le e = ap (λ m. space ∷ decimal m) e
-positive (negsuc k) n le e = absurd (omega (arith, ints))
-
--- h, the literals, a space, 0 and LF, one after the other
-pub line_bytes : {was a b d e left : List ℕ} {at first end digit last after : ℕ} (c : List ℤ) → at + length (line c) ≤ length was → PutIfRoom was a at first (hard ∷ []) → PutAt a b first end (flat_map spaced c) → PutIfRoom b d end digit (space ∷ []) → PutIfRoom d e digit last (zero_digit ∷ []) → PutIfRoom e left last after (lf ∷ []) → left ≡ paste was at (line c) (length (line c))
-unfolding put
-line_bytes {was} {a} {b} {d} {e} {left} {at} {first} {end} {digit} {last} {after} c room h ls s z f =
-    let n = line_length c in
-    let j = flat_map spaced c in
-    let one = h.room (omega arith) in
-    let two = put_more (omega (arith, one.ends)) one ls in
-    let three = put_then (omega arith) two s in
-    let k = length-append j (space ∷ []) in
-    let four = put_then (omega arith) three z in
-    let m = length-append (j ++ space ∷ []) (zero_digit ∷ []) in
-    let five = put_then (omega arith) four f in
-    let is : hard ∷ (((j ++ space ∷ []) ++ zero_digit ∷ []) ++ lf ∷ []) ≡ line c = simp append_assoc in
-    five.bytes ∙ ap (put was at) is
+pub no_literal : (c : List ℤ) (i : ℕ) → length c ≤ i → line_from c i ≡ (space ∷ zero_digit ∷ lf ∷ []) ++ []
+no_literal c i le = ap (λ l. flat_map spaced l ++ space ∷ zero_digit ∷ lf ∷ []) (drop_all i c le)

@@ -1,39 +1,37 @@
 -- What a memory spells, and what its sink means, when a call is done. Assumes nothing.
-use Rattle.std.proofs.Common.{◌≡◌, ℕ, zero, suc, ◌+◌, ◌-◌, ◌≤◌, true, cond, ◌&&◌, List, [], ◌∷◌, ◌++◌, length, take, drop, replicate, ℤ, is_some, Some, None, Ok, Err, vec_items, vec_len, Option, Result, Vec, sym, refl, ap, ◌∙◌, subst, append_assoc, append-nil, arith, length-append, length-take-le, take_all, take-take, take_at, drop_at}
+use Rattle.std.proofs.Common.{◌≡◌, ℕ, ◌+◌, ◌-◌, ◌^◌, ◌≤◌, min, true, cond, ◌&&◌, List, [], ◌∷◌, ◌++◌, length, take, drop, replicate, ℤ, is_some, Some, None, Ok, vec_items, vec_len, Option, Vec, sym, refl, ap, ◌∙◌, subst, append_assoc, append-nil, arith, length-append, length-take-le, length-drop, take_all, take-take, take_at, drop_at, take-append-drop}
+use borrow.Rule.Slice.PartMut.{put_mid}
 use mathlib.Core.Bool.{and-true}
 use lib.ListN.{length-replicate, replicate-append-replicate}
 use lib.Seq.{paste, take-length, take-append-le, drop-append-add, length-paste, take-paste}
 use Rattle.std.specs.List.{flat_map}
 use Rattle.std.specs.Vec.{with_items}
-use Rattle.std.proofs.lemmas.List.{flat_map_more, drop_all, drop-replicate, with_items_is}
+use Rattle.std.proofs.lemmas.List.{flat_map_more, drop-replicate, with_items_is}
+use Rattle.std.proofs.lemmas.Slice.{put_mid-paste}
 use Rattle.std.proofs.lemmas.Bool.{and_parts, and_from}
-use Rattle.project.specs.declared.refusal.Refusal.{Refusal}
-use Rattle.project.specs.Refusals.{told}
 use Rattle.sinks.specs.Clauses.{Assignment, clausal, clauses, meets, meets_all}
-use Rattle.sinks.specs.Meanings.{Meaning, Same, Unchanged, Opened, Added, Kept, Struck, New, Wide}
-use Rattle.sinks.specs.Calls.{Verdict, Does, Ends, Order, Empty, Settled, Appended, Reverted, Untouched, accepted, no, opening, adding, closing}
-use Rattle.sinks.specs.Ledgers.{fresh, first_tally, may_open, may_charge, may_close, price, with_opening, charged, kept, restored}
+use Rattle.sinks.specs.Meanings.{Meaning, Same, Unchanged, Added, Struck}
+use Rattle.sinks.specs.Calls.{Verdict, Ends, Order, Open, Appended, Reverted, accepted, no, opening, adding, closing}
+use Rattle.sinks.specs.Ledgers.{first_tally, may_open, may_charge, may_close, price, with_opening, charged, restored}
 use Rattle.sinks.specs.declared.ledger.Ledger.{Ledger}
 use Rattle.sinks.specs.declared.ledger.Tally.{Tally}
-use Rattle.sinks.proofs.Batches.{meets_append}
+use Rattle.std.proofs.lemmas.List.Folds.{list_all-append}
 use Rattle.sinks.proofs.Ledgers as ledgers
 use Rattle.sinks.proofs.Verdicts.{passes}
 use Rattle.stores.specs.Scripts.{Script, Legible, page}
-use Rattle.stores.specs.Memories.{opening_part, Spells, Clausal, Counts, Begins, Grew, admits, stored, Recorded}
+use Rattle.stores.specs.Memories.{opening_part, Grew, Sound, admits, stored, Recorded}
 
 -- Lists of clauses.
 
 clauses_more : (cs : List (List ℤ)) (c : List ℤ) → clauses cs ≡ true → clausal c ≡ true → clauses (cs ++ c ∷ []) ≡ true
-clauses_more [] c h is = and_from (clausal c) true is refl
-clauses_more (d ∷ cs) c h is = let p = and_parts (clausal d) (clauses cs) h in and_from (clausal d) _ p.0 (clauses_more cs c p.1 is)
+clauses_more cs c h is = list_all-append clausal cs (c ∷ []) ∙ and_from (clauses cs) _ h (and-true (clausal c) ∙ is)
 
 clauses_take : (n : ℕ) (cs : List (List ℤ)) → clauses cs ≡ true → clauses (take n cs) ≡ true
-clauses_take zero cs h = refl
-clauses_take (suc n) [] h = refl
-clauses_take (suc n) (c ∷ cs) h = let p = and_parts (clausal c) (clauses cs) h in and_from (clausal c) _ p.0 (clauses_take n cs p.1)
+clauses_take n cs h =
+    (and_parts (clauses (take n cs)) (clauses (drop n cs)) (sym (list_all-append clausal (take n cs) (drop n cs)) ∙ ap clauses (take-append-drop n cs) ∙ h)).0
 
 meets_more : (a : Assignment) (c : List ℤ) (cs : List (List ℤ)) → meets_all a (cs ++ c ∷ []) ≡ (meets_all a cs && meets a c)
-meets_more a c cs = meets_append a cs (c ∷ []) ∙ ap (λ b. meets_all a cs && b) (and-true (meets a c))
+meets_more a c cs = list_all-append (meets a) cs (c ∷ []) ∙ ap (λ b. meets_all a cs && b) (and-true (meets a c))
 
 -- Ledgers.
 
@@ -46,30 +44,11 @@ remains : (now new : Tally) (o : Option Tally) → is_some o ≡ true → first_
 remains now new None h = let z : ◌≡◌ {A = ℕ} 0 1 = cc in absurd (omega arith)
 remains now new (Some t) h = refl
 
--- striking gives room back, and not more than there is
-pub struck_within : {A : Type 0} (m : List A) (l l' : Ledger) → l' ≡ restored l → Grew m l → (l.tally.free ≤ l'.tally.free) × (l'.tally.free ≤ length m)
-struck_within m l l' e g = subst (λ x. (l.tally.free ≤ x.tally.free) × (x.tally.free ≤ length m)) (sym e) (g.1, g.2)
-
--- what the memory of a sink and its ledger keep to, in one
-pub record Sound {A : Type 0} (s : Script A) (m : List A) (l : Ledger) : Type 0 where
-  pub spells : Spells s m l
-  pub clausal : Clausal s m
-  pub counts : Counts s m l
-  pub begins : Begins s m l
-  pub grew : Grew m l
-
--- how a sink is made
-pub record Starts {A : Type 0} (s : Script A) (n : ℕ) (m : List A) (l : Ledger) : Type 0 where
-  pub sound : Sound s m l
-  pub fresh : New n (stored s m l)
-  pub order : Empty (Recorded s m l)
-  pub wide : Wide (stored s m l)
-
--- what a call leaves that answers this, and where it is accepted does this to the meaning and to the order
-pub record Leaves {A B : Type 0} (s : Script A) (r : Result B Refusal) (answer : Verdict) (Done : (before after : Meaning) → Type 0) (Ordered : (before after : Order) → Type 0) (m m' : List A) (l l' : Ledger) : Type 0 where
+-- what an accepted call leaves, which answers this and does this to the meaning and to the order
+pub record Leaves {A : Type 0} (s : Script A) (answer : Verdict) (Done : (before after : Meaning) → Type 0) (Ordered : (before after : Order) → Type 0) (m m' : List A) (l l' : Ledger) : Type 0 where
   pub sound : Sound s m' l'
-  pub meaning : Ends r answer (Done (stored s m l) (stored s m' l')) (Unchanged (stored s m l) (stored s m' l'))
-  pub order : Does r (Ordered (Recorded s m l) (Recorded s m' l')) (Untouched (Recorded s m l) (Recorded s m' l'))
+  pub meaning : Ends {A = Unit {0}} (Ok tt) answer (Done (stored s m l) (stored s m' l')) (Unchanged (stored s m l) (stored s m' l'))
+  pub order : Ordered (Recorded s m l) (Recorded s m' l')
 
 module _ {A : Type 0} (s : Script A) where
   admits_same : (m m' : List A) → s.spelled m ≡ s.spelled m' → Same (admits s m) (admits s m')
@@ -113,23 +92,6 @@ module _ {A : Type 0} (s : Script A) (legible : Legible s) where
       let cs = take (first_tally l).count (s.spelled m) in
       ap s.spelled (sd.begins ∙ sym (append-nil (flat_map s.spell cs))) ∙ reads 0 cs (clauses_take (first_tally l).count (s.spelled m) sd.clausal)
 
-  -- A new sink.
-
-  starts_fresh : (n : ℕ) (m : List A) → m ≡ replicate n s.blank → Starts s n m (fresh n)
-  starts_fresh n m is =
-      let long = ap length is ∙ length-replicate n s.blank in
-      let none : length m - n ≡ 0 = omega arith in
-      let h = has m (fresh n) [] is refl refl (ap (λ k. take k m) none) (omega arith, omega arith, omega arith) in
-      record {
-        sound = h.sound;
-        fresh = ledgers.starts (λ _. Unit {0}) (admits s m) (λ c. length (s.spell c)) n (admits s m) (λ a. (λ _. ap (meets_all a) h.spelt, λ _. tt));
-        order = (refl, h.spelt);
-        wide = λ last setting. (setting, tt, λ v _ _. refl);
-      }
-
-  starts : (n : ℕ) (m : List A) (l : Ledger) → m ≡ replicate n s.blank → l ≡ fresh n → Starts s n m l
-  starts n m l is e = subst (Starts s n m) (sym e) (starts_fresh n m is)
-
   module _ (m : List A) (l : Ledger) (sd : Sound s m l) where
     -- what is in use are the clauses
     used : take (length m - l.tally.free) m ≡ flat_map s.spell (s.spelled m)
@@ -161,18 +123,6 @@ module _ {A : Type 0} (s : Script A) (legible : Legible s) where
     all : take l.tally.count (s.spelled m) ≡ s.spelled m
     all = let counts = sd.counts in take_all l.tally.count (s.spelled m) (omega arith)
 
-    -- A call that is refused leaves all as it is.
-
-    pub refused : {B : Type 0} (y : Refusal) (answer : Verdict) (Done : (before after : Meaning) → Type 0) (Ordered : (before after : Order) → Type 0) (l' : Ledger) → Err (told y) ≡ answer → l' ≡ l → Leaves {B = B} s (Err y) answer Done Ordered m m l l'
-    refused {B} y answer Done Ordered l' a e = subst (λ x. Leaves {B = B} s (Err y) answer Done Ordered m m l x) (sym e) (record {
-      sound = sd;
-      meaning = record {
-        answers = a;
-        does = ledgers.unchanged _ _ _ _ _ _ l l refl (admits_same s m m refl) (admits_same s (opening_part m l) (opening_part m l) refl);
-      };
-      order = λ before since h. h;
-    })
-
     opening_is : may_open l ≡ opening (stored s m l)
     opening_is = ledgers.opening_is (λ _. Unit {0}) (λ c. length (s.spell c)) (admits s m) (admits s m) (admits s (opening_part m l)) (admits s m) l
 
@@ -192,39 +142,13 @@ module _ {A : Type 0} (s : Script A) (legible : Legible s) where
       grew = let grew = sd.grew in subst (λ (t : Tally). (t.count ≤ l.tally.count) × (l.tally.free ≤ t.free) × (t.free ≤ length m)) (sym e) (omega arith, omega arith, omega arith);
     }
 
-    settles : (o : Option Tally) → first_tally (record { tally = l.tally; opening = o }) ≡ l.tally → Settled (Recorded s m l) (Recorded s m (record { tally = l.tally; opening = o }))
-    settles o e before since h = (ap (λ (t : Tally). take t.count (s.spelled m)) e ∙ all ∙ h.1, h.1 ∙ sym (append-nil (before ++ since)))
-
-    pub opens : {B : Type 0} (x : B) (l' : Ledger) → Ends {A = Unit {0}} (Ok tt) (may_open l) (l' ≡ with_opening l) (l' ≡ l) → Leaves s (Ok x) (opening (stored s m l)) Opened Settled m m l l'
-    opens x l' h = subst (λ n. Leaves s (Ok x) (opening (stored s m l)) Opened Settled m m l n) (sym h.does) (
-        let sound = settled (Some l.tally) refl in
-        record {
-          sound = sound;
-          meaning = record {
-            answers = h.answers ∙ opening_is;
-            does = ledgers.opens _ _ _ _ _ _ l (with_opening l) refl (admits_same s m m refl) (admits_same s m (opening_part m (with_opening l)) (sym (opening_spelt m (with_opening l) sound ∙ all)));
-          };
-          order = settles (Some l.tally) refl;
-        })
-
-    pub keeps : (r : Result (Unit {0}) Refusal) (l' : Ledger) → Ends r (may_close l) (l' ≡ kept l) (l' ≡ l) → Leaves s r (closing (stored s m l)) Kept Settled m m l l'
-    keeps (Err y) l' h = refused y _ Kept Settled l' (h.answers ∙ closing_is) h.does
-    keeps (Ok x) l' h = subst (λ n. Leaves s (Ok x) (closing (stored s m l)) Kept Settled m m l n) (sym h.does) (record {
-      sound = settled None refl;
-      meaning = record {
-        answers = h.answers ∙ closing_is;
-        does = ledgers.keeps _ _ _ _ _ (admits s m) l (kept l) refl (admits_same s m m refl);
-      };
-      order = settles None refl;
+    pub opens : {B : Type 0} (x : B) (l' : Ledger) → Ends {A = Unit {0}} (Ok tt) (may_open l) (l' ≡ with_opening l) (l' ≡ l) → Open (Ok x) (stored s m l) (stored s m l')
+    opens x l' h = subst (λ n. Open (Ok x) (stored s m l) (stored s m n)) (sym h.does) (record {
+      answers = h.answers ∙ opening_is;
+      does = ledgers.opens _ _ _ _ _ _ l (with_opening l) refl (admits_same s m m refl) (admits_same s m (opening_part m (with_opening l)) (sym (opening_spelt m (with_opening l) (settled (Some l.tally) refl) ∙ all)));
     })
 
     -- One clause more, spelled where what is free begins.
-
-    pub fits : (c : List ℤ) (p : Option ℕ) → p ≡ price c (length (s.spell c)) → accepted ≡ may_charge p l → length m - l.tally.free + length (s.spell c) ≤ length m
-    fits c p priced takes =
-        let grew = sd.grew in
-        let room = (ledgers.charges c (length (s.spell c)) l (takes ∙ ap (λ x. may_charge x l) priced)).room in
-        omega arith
 
     module _ (c : List ℤ) (m' : List A) (le : length (s.spell c) ≤ l.tally.free) (is : m' ≡ paste m (length m - l.tally.free) (s.spell c) (length (s.spell c))) where
       writes : m' ≡ page s (l.tally.free - length (s.spell c)) (s.spelled m ++ c ∷ [])
@@ -274,7 +198,7 @@ module _ {A : Type 0} (s : Script A) (legible : Legible s) where
             (ap (λ (t : Tally). take (length m' - t.free) m') stays ∙ same_opening ∙ sd.begins ∙ ap (flat_map s.spell) (sym same_clauses ∙ ap (λ (t : Tally). take t.count (s.spelled m ++ c ∷ [])) (sym stays)))
             (subst (λ (t : Tally). (t.count ≤ l.tally.count + 1) × (l.tally.free - length (s.spell c) ≤ t.free) × (t.free ≤ length m')) (sym stays) (omega arith, omega arith, omega arith))
 
-        adds_some : accepted ≡ adding c (stored s m l) → Leaves {B = Unit {0}} s (Ok tt) (adding c (stored s m l)) (Added c) (Appended c) m m' l (charged (Some (length (s.spell c))) l)
+        adds_some : accepted ≡ adding c (stored s m l) → Leaves s (adding c (stored s m l)) (Added c) (Appended c) m m' l (charged (Some (length (s.spell c))) l)
         adds_some takes =
             let k = length (s.spell c) in
             let h = has_more in
@@ -291,13 +215,13 @@ module _ {A : Type 0} (s : Script A) (legible : Legible s) where
               );
             }
 
-    adds : (c : List ℤ) (p : Option ℕ) (at : ℕ) (m' : List A) (l' : Ledger) → p ≡ price c (length (s.spell c)) → Ends {A = Unit {0}} (Ok tt) (may_charge p l) (l' ≡ charged p l) (l' ≡ l) → at ≡ length m - l.tally.free → m' ≡ paste m at (s.spell c) (length (s.spell c)) → Leaves {B = Unit {0}} s (Ok tt) (adding c (stored s m l)) (Added c) (Appended c) m m' l l'
+    adds : (c : List ℤ) (p : Option ℕ) (at : ℕ) (m' : List A) (l' : Ledger) → p ≡ price c (length (s.spell c)) → Ends {A = Unit {0}} (Ok tt) (may_charge p l) (l' ≡ charged p l) (l' ≡ l) → at ≡ length m - l.tally.free → m' ≡ paste m at (s.spell c) (length (s.spell c)) → Leaves s (adding c (stored s m l)) (Added c) (Appended c) m m' l l'
     adds c p at m' l' priced h here is =
         let k = length (s.spell c) in
         let takes = h.answers ∙ ap (λ x. may_charge x l) priced in
         let a = ledgers.charges c k l takes in
         let stays = remains l.tally (charged (Some k) l).tally l.opening (opened l.opening _ takes) in
-        subst (λ n. Leaves s (Ok tt) (adding c (stored s m l)) (Added c) (Appended c) m m' l n) (sym (h.does ∙ ap (λ x. charged x l) priced ∙ a.ledger)) (adds_some c m' a.room (is ∙ ap (λ n. paste m n (s.spell c) k) here) a.clause stays (takes ∙ adding_is c))
+        subst (λ n. Leaves s (adding c (stored s m l)) (Added c) (Appended c) m m' l n) (sym (h.does ∙ ap (λ x. charged x l) priced ∙ a.ledger)) (adds_some c m' a.room (is ∙ ap (λ n. paste m n (s.spell c) k) here) a.clause stays (takes ∙ adding_is c))
 
     -- What was in use at the opening, and blank from there on.
 
@@ -316,7 +240,7 @@ module _ {A : Type 0} (s : Script A) (legible : Legible s) where
           (ap (take (length m' - t.free)) is ∙ take_at (opening_part m l) z (length m' - t.free) (omega arith) ∙ sd.begins ∙ ap (flat_map s.spell) (sym (take-take t.count t.count (s.spelled m) (omega arith))))
           (omega arith, omega arith, omega arith)
 
-      strikes_all : accepted ≡ may_close l → Leaves {B = Unit {0}} s (Ok tt) (closing (stored s m l)) Struck Reverted m m' l (restored l)
+      strikes_all : accepted ≡ may_close l → Leaves s (closing (stored s m l)) Struck Reverted m m' l (restored l)
       strikes_all closes =
           let first = has_first in
           record {
@@ -331,38 +255,53 @@ module _ {A : Type 0} (s : Script A) (legible : Legible s) where
             );
           }
 
-    strikes : (at : ℕ) (m' : List A) (l' : Ledger) → Ends {A = Unit {0}} (Ok tt) (may_close l) (l' ≡ restored l) (l' ≡ l) → at ≡ length m - l'.tally.free → m' ≡ take at m ++ replicate (length m - at) s.blank → Leaves {B = Unit {0}} s (Ok tt) (closing (stored s m l)) Struck Reverted m m' l l'
+    strikes : (at : ℕ) (m' : List A) (l' : Ledger) → Ends {A = Unit {0}} (Ok tt) (may_close l) (l' ≡ restored l) (l' ≡ l) → at ≡ length m - l'.tally.free → m' ≡ take at m ++ replicate (length m - at) s.blank → Leaves s (closing (stored s m l)) Struck Reverted m m' l l'
     strikes at m' l' h here is =
         let grew = sd.grew in
         let free = ap (λ (x : Ledger). x.tally.free) h.does in
         let front : at ≡ length m - (first_tally l).free = omega arith in
         let rest : length m - at ≡ (first_tally l).free = omega arith in
         let whole = is ∙ ap (λ n. take n m ++ replicate (length m - at) s.blank) front ∙ ap (λ n. opening_part m l ++ replicate n s.blank) rest in
-        subst (λ n. Leaves s (Ok tt) (closing (stored s m l)) Struck Reverted m m' l n) (sym h.does) (strikes_all m' whole h.answers)
+        subst (λ n. Leaves s (closing (stored s m l)) Struck Reverted m m' l n) (sym h.does) (strikes_all m' whole h.answers)
 
--- The same, over a vector that was lent as a slice and comes back with the elements `w`: what is in use ends at its length less the room.
+-- The same, over a vector whose part from the end of what was in use, or to it, was lent as a slice and comes back as `part`. A memory is shorter than
+-- the largest number, so that a price which is cut off there is still the length.
 
-module _ {A Z : Type 0} (s : Script A) (legible : Legible s) (v : Vec A Z) (lent w : List A) (value : lent ≡ vec_items v) (as_many : length w ≡ length lent) where
-  refills : vec_items (with_items v w) ≡ w
-  refills = let lens = v.ok.0 in let same = ap length value in with_items_is v w (omega arith)
+module _ {A Z : Type 0} (s : Script A) (legible : Legible s) (v : Vec A Z) (lent part : List A) (value : lent ≡ vec_items v) (l l' : Ledger) (sd : Sound s (vec_items v) l) (size was now : ℕ) (whole : size ≡ vec_len v) (before : was ≡ l.tally.free) (after : now ≡ l'.tally.free) where
+  refills : (w : List A) → length w ≡ length lent → vec_items (with_items v w) ≡ w
+  refills w same = let lens = v.ok.0 in let long = ap length value in with_items_is v w (omega arith)
 
-  pub starts_in : (len : ℕ) (l : Ledger) → len ≡ vec_len v → l ≡ fresh len → w ≡ (take 0 lent ++ replicate (len - 0) s.blank) ++ drop len lent → Starts s (vec_len v) (vec_items (with_items v w)) l
-  starts_in len l size e is =
-      let lens = v.ok.0 in
-      let same = ap length value in
-      let long : len - 0 ≡ vec_len v = omega arith in
-      let all = ap (λ x. replicate (len - 0) s.blank ++ x) (drop_all len lent (omega arith)) ∙ append-nil (replicate (len - 0) s.blank) in
-      starts s legible (vec_len v) (vec_items (with_items v w)) l (refills ∙ is ∙ all ∙ ap (λ n. replicate n s.blank) long) (e ∙ ap fresh size)
+  pub adds_in : (c : List ℤ) (n : ℕ) (p : Option ℕ) → n ≡ min (length (s.spell c)) (2 ^ 64 - 1) → p ≡ price c n → Ends {A = Unit {0}} (Ok tt) (may_charge p l) (l' ≡ charged p l) (l' ≡ l) → part ≡ s.spell c
+      → Leaves s (adding c (stored s (vec_items v) l)) (Added c) (Appended c) (vec_items v) (vec_items (with_items v (put_mid (size - was) ((size - now) - (size - was)) lent part))) l l'
+  adds_in c n p long priced h is =
+      let lens = v.ok in
+      let small = v.small in
+      let grew = sd.grew in
+      let k = length (s.spell c) in
+      let paid = ledgers.charges c n l (h.answers ∙ ap (λ q. may_charge q l) priced) in
+      let room = paid.room in
+      let fits : n ≡ k = omega arith in
+      let left = ap (λ (x : Ledger). x.tally.free) (h.does ∙ ap (λ q. charged q l) priced ∙ paid.ledger) in
+      let same_length = ap length value in
+      let w = put_mid-paste (size - was) ((size - now) - (size - was)) lent part (s.spell c) k is (omega arith) refl in
+      let same = ap length w ∙ length-paste lent (size - was) (s.spell c) k (omega arith) (omega arith) in
+      adds s legible (vec_items v) l sd c p (size - was) _ l' (priced ∙ ap (price c) fits) h (omega arith) (refills _ same ∙ w ∙ ap (λ d. paste d (size - was) (s.spell c) k) value)
 
-  module _ (l : Ledger) (sd : Sound s (vec_items v) l) (len room : ℕ) (size : len ≡ vec_len v) where
-    pub adds_in : (c : List ℤ) (p : Option ℕ) (l' : Ledger) → p ≡ price c (length (s.spell c)) → Ends {A = Unit {0}} (Ok tt) (may_charge p l) (l' ≡ charged p l) (l' ≡ l) → room ≡ l.tally.free → w ≡ paste lent (len - room) (s.spell c) (length (s.spell c)) → Leaves {B = Unit {0}} s (Ok tt) (adding c (stored s (vec_items v) l)) (Added c) (Appended c) (vec_items v) (vec_items (with_items v w)) l l'
-    adds_in c p l' priced h free is =
-        let lens = v.ok.0 in
-        adds s legible (vec_items v) l sd c p (len - room) (vec_items (with_items v w)) l' priced h (omega arith) (refills ∙ is ∙ ap (λ d. paste d (len - room) (s.spell c) (length (s.spell c))) value)
-
-    pub strikes_in : (l' : Ledger) (used : ℕ) → Ends {A = Unit {0}} (Ok tt) (may_close l) (l' ≡ restored l) (l' ≡ l) → used ≡ l.tally.free → room ≡ l'.tally.free → w ≡ (take (len - room) lent ++ replicate ((len - used) - (len - room)) s.blank) ++ drop (len - used) lent → Leaves {B = Unit {0}} s (Ok tt) (closing (stored s (vec_items v) l)) Struck Reverted (vec_items v) (vec_items (with_items v w)) l l'
-    strikes_in l' used h before free is =
-        let lens = v.ok.0 in
-        let back = struck_within (vec_items v) l l' h.does sd.grew in
-        let ends : len - used ≡ length (vec_items v) - l.tally.free = omega arith in
-        strikes s legible (vec_items v) l sd (len - room) (vec_items (with_items v w)) l' h (omega arith) (refills ∙ is ∙ ap (λ d. (take (len - room) d ++ replicate ((len - used) - (len - room)) s.blank) ++ drop (len - used) d) value ∙ blanked s legible (vec_items v) l sd (len - room) (len - used) ends (omega (arith, back.0, back.1)) (omega (arith, back.0, back.1)))
+  pub strikes_in : Ends {A = Unit {0}} (Ok tt) (may_close l) (l' ≡ restored l) (l' ≡ l) → part ≡ replicate (length (take ((size - was) - (size - now)) (drop (size - now) lent))) s.blank
+      → Leaves s (closing (stored s (vec_items v) l)) Struck Reverted (vec_items v) (vec_items (with_items v (put_mid (size - now) ((size - was) - (size - now)) lent part))) l l'
+  strikes_in h is =
+      let lens = v.ok in
+      let grew = sd.grew in
+      let back = ap (λ (x : Ledger). x.tally.free) h.does in
+      let long = ap length value in
+      let n = (size - was) - (size - now) in
+      let mid = length-take-le n (drop (size - now) lent) (simp length-drop (omega arith)) in
+      let z = replicate n s.blank in
+      let blank = length-replicate n s.blank in
+      let w = put_mid-paste (size - now) n lent part z n (is ∙ ap (λ k. replicate k s.blank) mid) refl (omega arith) in
+      let same = ap length w ∙ length-paste lent (size - now) z n (omega arith) (omega arith) in
+      let ends : size - was ≡ length (vec_items v) - l.tally.free = omega arith in
+      let to : size - now + n ≡ size - was = omega arith in
+      strikes s legible (vec_items v) l sd (size - now) _ l' h (omega arith)
+      (refills _ same ∙ w ∙ ap (λ d. paste d (size - now) z n) value ∙ ap (λ x. (take (size - now) (vec_items v) ++ x) ++ drop (size - now + n) (vec_items v)) (take_all n z (omega arith)) ∙ ap (λ k. (take (size - now) (vec_items v) ++ z) ++ drop k (vec_items v)) to
+      ∙ blanked s legible (vec_items v) l sd (size - now) (size - was) ends (omega arith) (omega arith))

@@ -2,6 +2,6 @@
 #![tactic(auto)]
 
 pub mod cells;
-mod line;
-mod memory;
+pub mod spelling;
+pub mod store;
 pub mod text;

@@ -2,8 +2,10 @@
 // hexadecimal digits, `*N:x` for N times what `x` stands for, and any other character for itself.
 use anyhow::anyhow;
 use std::alloc::{AllocError, Global};
+use std::iter;
 
-// What the next character is taken for.
+// What the next character is taken for. A `for` over the characters cannot be advanced from within, so the step is kept from one to the next;
+// closures would say no more than these names.
 #[derive(Clone, Copy)]
 enum Next {
     Item,
@@ -20,6 +22,7 @@ struct Unpacker {
     times: usize,
 }
 
+// `to_digit` takes capitals too, and these are no digits here.
 fn hex_digit(character: u8) -> anyhow::Result<u8> {
     match character {
         b'0'..=b'9' => Ok(character - b'0'),
@@ -30,9 +33,7 @@ fn hex_digit(character: u8) -> anyhow::Result<u8> {
 
 impl Unpacker {
     fn put(&mut self, byte: u8) -> Result<(), AllocError> {
-        for _ in 0..self.times {
-            self.bytes.push(byte)?;
-        }
+        self.bytes.extend(iter::repeat_n(byte, self.times))?;
         self.next = Next::Item;
         self.times = 1;
         Ok(())
@@ -94,12 +95,11 @@ pub(crate) fn unpack(heap: Global, text: &str) -> anyhow::Result<Vec<u8>> {
 
 // The text of a book that was written, on one line.
 pub(crate) fn pack(heap: Global, bytes: &[u8]) -> Result<String, AllocError> {
-    let mut text = String::new(heap);
-    for byte in bytes {
-        text.push(match *byte {
+    bytes
+        .iter()
+        .map(|byte| match *byte {
             b'\n' => '|',
             plain => char::from(plain),
-        })?;
-    }
-    Ok(text)
+        })
+        .collect(heap)
 }

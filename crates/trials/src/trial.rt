@@ -2,7 +2,7 @@
 use crate::packed::{pack, unpack};
 use anyhow::{Context, anyhow};
 use project::refusal::Refusal;
-use project::tables::{Activity, Head, Kind, MOST_RESOURCES, Pair};
+use project::tables::{Activity, Head, Kind, MOST_RESOURCES, Pair, Tables};
 use std::alloc::{AllocError, Global};
 use std::fmt;
 
@@ -52,12 +52,7 @@ fn table_length(word: &str) -> anyhow::Result<usize> {
 
 // Whether each record from the given place on is this one.
 fn rest_is<T: PartialEq>(records: &[T], from: usize, expected: &T) -> bool {
-    for record in records.iter().skip(from) {
-        if record != expected {
-            return false;
-        }
-    }
-    true
+    records.iter().skip(from).all(|record| record == expected)
 }
 
 impl Case {
@@ -77,7 +72,14 @@ impl Case {
         let mut activities = vec![in heap; OLD_ACTIVITY; self.activities]?;
         let mut pairs = vec![in heap; OLD_PAIR; self.pairs]?;
         match book::read(&self.book, &mut activities, &mut pairs) {
-            Ok(head) => accepted(heap, head, &activities, &pairs),
+            Ok(head) => accepted(
+                heap,
+                Tables {
+                    head,
+                    activities: &activities,
+                    pairs: &pairs,
+                },
+            ),
             Err(refusal) => Ok(Outcome::Refused {
                 refusal,
                 blank: rest_is(&activities, 0, &Activity::blank())
@@ -87,21 +89,17 @@ impl Case {
     }
 }
 
-fn accepted(
-    heap: Global,
-    head: Head,
-    activities: &[Activity],
-    pairs: &[Pair],
-) -> Result<Outcome, AllocError> {
+fn accepted(heap: Global, tables: Tables<'_>) -> Result<Outcome, AllocError> {
+    let head = tables.head;
     let mut out = vec![in heap; 0u8; book::MOST_BYTES]?;
-    match book::write(&head, activities, pairs, &mut out) {
+    match book::write(tables, &mut out) {
         Ok(length) => {
             out.truncate(length);
             Ok(Outcome::Accepted {
                 head,
                 text: pack(heap, &out)?,
-                rest_kept: rest_is(activities, head.activities, &OLD_ACTIVITY)
-                    && rest_is(pairs, head.pairs, &OLD_PAIR),
+                rest_kept: rest_is(tables.activities, head.activities, &OLD_ACTIVITY)
+                    && rest_is(tables.pairs, head.pairs, &OLD_PAIR),
             })
         }
         Err(refusal) => Ok(Outcome::Unwritten(refusal)),

@@ -1,7 +1,7 @@
 use Rattle.std.proofs.Common.{Err, ap, ◌∙◌, rules}
 use Rattle.std.proofs.lemmas.Result.{err_from_is_err_and}
 use Rattle.sinks.specs.Batches.{held}
-use Rattle.sinks.proofs.Batches.{adds_none, opens, keeps, strikes}
+use Rattle.sinks.proofs.Batches.{opens, keeps, strikes}
 use Rattle.sinks.proofs.Wholes.{turn, whole, not_opened, struck, kept}
 use Rattle.sinks.proofs.batch.add_all.Goals as goal
 
@@ -10,9 +10,6 @@ returns-in_err-token g c =
     let p = err_from_is_err_and c.from_residual.result c.from_residual.ensures.1 in
     let o = c.in_err-token.ensures in
     whole g.S.Sink _ _ _ _ (not_opened g.S.Sink (held c.args.clauses.now) _ c.args.sink.now c.open.new.self o.meaning o.order _ (p.1 ∙ ap Err p.2))
-
-pub loop-clause-init : goal.loop-clause-init
-loop-clause-init g c = adds_none g.S.Sink c.open.new.self
 
 pub loop-clause-preserved : goal.loop-clause-preserved
 loop-clause-preserved g c =

@@ -1,0 +1,20 @@
+use Rattle.std.proofs.Common.{get_or, pos, ◌∙◌, arith, w32, SFits, rules}
+use Rattle.std.proofs.lemmas.Int.{to_z-of_z}
+use Rattle.numerals.proofs.Writing.{more, all_put}
+use Rattle.stores.proofs.Lines.{next_literal, no_literal}
+use Rattle.stores.proofs.text.TextSpelling.write.Goals as goal
+
+pub loop-literal-preserved : goal.loop-literal-preserved
+loop-literal-preserved c =
+    let ls = c.args.clause.now in
+    let i = c.loop-literal.literal-index in
+    let f : SFits w32 (get_or ls i (pos 0)) = search rules in
+    let same = to_z-of_z w32 (get_or ls i (pos 0)) f in
+    record {
+      same_reference = c.write_number.ensures.same_reference ∙ c.write_byte-in-loop-literal.ensures.same_reference ∙ c.loop-literal.invariant.same_reference;
+      underway = more (omega arith) (more (omega arith) c.loop-literal.invariant.underway (next_literal ls i c.loop-literal-test.true) c.write_byte-in-loop-literal.ensures.put) (search rules) c.write_number.ensures.put;
+    }
+
+pub returns : goal.returns
+returns c =
+    (search rules) ∙ all_put c.requires (more (omega arith) c.loop-literal.invariant.underway (no_literal c.args.clause.now c.loop-literal.literal-index c.loop-literal-test.false) c.write_bytes.ensures.put)

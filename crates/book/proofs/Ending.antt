@@ -1,5 +1,5 @@
 -- The trailer, as the code finds it. Assumes nothing.
-use Rattle.std.proofs.Common.{◌≡◌, ℕ, ◌-◌, ◌≤◌, ◌&&◌, leb, List, length, get_or, take, drop, Some, None, Ok, Err, Option, Result, sym, ap, ◌∙◌, arith}
+use Rattle.std.proofs.Common.{◌≡◌, ℕ, ◌-◌, ◌≤◌, ◌&&◌, leb, List, length, get_or, take, drop, Some, None, Ok, Err, Option, Result, sym, ap, ◌∙◌}
 use Rattle.std.specs.Result.{result_ok}
 use Rattle.std.proofs.lemmas.List.{take_rest}
 use Rattle.std.proofs.lemmas.Bool.{cond-true, and_from, le-leb, eq-eqb}
@@ -7,13 +7,16 @@ use Rattle.project.specs.declared.refusal.Refusal.{Refusal}
 use Rattle.book.specs.declared.lines.Line.{Line}
 use Rattle.book.specs.declared.words.Word.{Word}
 use Rattle.book.specs.declared.words.Words.{Words}
-use Rattle.book.specs.Cuts.{LetterCut, place_of, said}
-use Rattle.book.specs.Lines.{Content, formed, most_bytes, lf}
+use Rattle.book.specs.Cuts.{LetterCut, left, place_of, said}
+use Rattle.book.specs.Lines.{Content, numerals, content, content_of, if_counted, formed, most_bytes, lf}
 use Rattle.book.specs.Parsed.{LineRead}
 use Rattle.book.specs.Reading.{ends_in_lf, but_last, last_line, trailed, trailed_by, trailer}
-use Rattle.book.specs.Steps.{content_in, Ready}
-use Rattle.book.proofs.Numbering.{formed_said}
-use Rattle.book.proofs.Reaching.{line_ready}
+use Rattle.book.specs.Steps.{content_in}
+
+-- what a line says is what its words say
+formed_said : (k : ℕ) (l : List ℕ) (place : ℕ) (w : Word) (ws : Words) → LetterCut l place w ws → formed k l ≡ said k w ws
+formed_said k l place w ws c =
+    ap (λ x. if_counted k (content_of x)) c.cut ∙ ap (λ o. if_counted k (content o (numerals (left ws)))) (sym c.tells)
 
 no_line : (o : Option Content) (place : ℕ) (r : Result Line Refusal) → LineRead o place r → None ≡ result_ok r → o ≡ None
 no_line o place (Ok l) h e = cc
@@ -42,6 +45,3 @@ module _ (bs : List ℕ) (last : get_or bs (length bs - 1) 0 ≡ lf) (short : le
   module _ (l : Line) (e : Some l ≡ result_ok r) where
     pub trailer_some : trailed bs p l.kind l.numbers.items ≡ trailer bs
     trailer_some = sym (trailer_is ∙ ap (trailed_by bs p) (some_line _ _ r read l e))
-
-    pub trailer_ready : Ready l
-    trailer_ready = line_ready 0 text l (omega arith) (said_is ∙ some_line _ _ r read l e)

@@ -9,7 +9,6 @@ pub mod Frames
 pub mod Looping
 pub mod Numbering
 pub mod Publishing
-pub mod Reaching
 pub mod Refusing
 pub mod Spelling
 pub mod Taking

@@ -1,10 +1,10 @@
 -- What the loop over a book's lines keeps, and what it comes to. Assumes nothing.
 use Rattle.std.proofs.Common.{◌≡◌, ℕ, suc, ◌+◌, ◌-◌, ◌≤◌, Bool, true, false, cond, ◌&&◌, eqb, leb, List, [], ◌∷◌, ◌++◌, length, take, drop, replicate, is_err, Some, None, Ok, Err, Option, Result, sym, refl, ap, ◌∙◌, subst, append_assoc, arith}
 use Rattle.std.specs.List.{between, flat_map}
-use Rattle.std.proofs.lemmas.List.{append_cancel_left, length-append, length_push, length-take-le, drop_at, drop-drop, take_at}
+use Rattle.std.proofs.lemmas.List.{append_cancel_left, length_push, length-take-le, drop_at, drop-drop, take_at}
 use Rattle.std.proofs.lemmas.Bool.{true≢false}
 use Rattle.project.specs.Project.{Project, project_of, head_of, filled, blank_activity, blank_pair}
-use Rattle.project.specs.Refusals.{Refused, refused, answer}
+use Rattle.project.specs.Refusals.{Refused, refused, told, answer}
 use Rattle.project.specs.declared.refusal.Refusal.{Refusal}
 use Rattle.project.specs.declared.tables.Activity.{Activity}
 use Rattle.project.specs.declared.tables.Head.{Head}
@@ -15,72 +15,51 @@ use Rattle.book.specs.declared.reader.Trailer.{Trailer as Found}
 use Rattle.book.specs.Accepted.{Sizes, sizes}
 use Rattle.book.specs.Cuts.{Without, SplitAt}
 use Rattle.book.specs.declared.words.Part.{Part}
-use Rattle.book.specs.Lines.{lf, most_bytes, line, lines, formed, with_lf}
+use Rattle.book.specs.Lines.{lf, line, lines, formed, with_lf}
 use Rattle.book.specs.Written.{trailer_line}
 use Rattle.book.specs.Reading.{Sofar, Trailed, resources_of, activity_of, pair_of, added, extended, judged, on, read_lines, trailer, body_lines, closed, read_after, reading, head_answer, activities_after, pairs_after}
-use Rattle.book.specs.Steps.{sofar_of, Kept, KeptSofar, Took, closing, Reads}
+use Rattle.book.specs.Steps.{sofar_of, activities_known, pairs_known, resources_known, Kept, closing, Reads}
+use Rattle.book.specs.Took.{project_in, TookLine, SameTables}
+use Rattle.book.specs.declared.reader.Reader.{Reader}
 use Rattle.book.proofs.Bodies.{step_from_judged}
 use Rattle.book.proofs.Frames.{first_line, trailer_framed}
 use Rattle.book.proofs.Taking.{answer_ok}
 
-abbrev activities_known : Option Head → ℕ
-activities_known None = 0
-activities_known (Some h) = h.activities
-
-abbrev pairs_known : Option Head → ℕ
-pairs_known None = 0
-pairs_known (Some h) = h.pairs
-
--- The lines of `left` are still to be read. The tables began as `acts₀` and `ps₀`.
-pub record Midway (bs : List ℕ) (t : Trailed) (acts₀ : List Activity) (ps₀ : List Pair) (sofar : Option Head) (left : Part) (count : ℕ) (acts : List Activity) (ps : List Pair) : Type 0 where
+-- What `first` was before the first line, r is now, and the lines of `left` are still to be read.
+pub record Midway (bs : List ℕ) (t : Trailed) (first r : Reader) (left : Part) (count : ℕ) : Type 0 where
+  pub tables : SameTables first r
   pub ended : flat_map with_lf (lines left.text.now) ≡ left.text.now
-  pub same : reading (sizes acts₀ ps₀) bs ≡ closed t (length (body_lines bs t)) (read_lines (sizes acts₀ ps₀) (sofar_of sofar acts ps) left.place (lines left.text.now))
+  pub same : reading (sizes first.activities.now first.pairs.now) bs ≡ closed t (length (body_lines bs t)) (read_lines (sizes first.activities.now first.pairs.now) (project_in r) left.place (lines left.text.now))
   pub counts : length (body_lines bs t) ≡ count + length (lines left.text.now)
   pub few : count ≤ left.place
-  pub kept : KeptSofar sofar acts ps
-  pub acts_long : length acts ≡ length acts₀
-  pub pairs_long : length ps ≡ length ps₀
-  pub acts_are : acts ≡ filled (take (activities_known sofar) acts) acts₀
-  pub pairs_are : ps ≡ filled (take (pairs_known sofar) ps) ps₀
+  pub activities : r.activities.now ≡ filled (take (activities_known r.sofar) r.activities.now) first.activities.now
+  pub pairs : r.pairs.now ≡ filled (take (pairs_known r.sofar) r.pairs.now) first.pairs.now
 
--- the body that a right trailer points to lies in the book, and its lines end in LF
-pub record Body (bs : List ℕ) (t : Trailed) : Type 0 where
-  pub order : t.start ≤ t.place
-  pub within : t.place ≤ length bs
-  pub short : length bs ≤ most_bytes
-  pub ended : flat_map with_lf (body_lines bs t) ≡ between t.start t.place bs
-
-pub body_of : (bs : List ℕ) (t : Trailed) → trailer bs ≡ Some t → Body bs t
-body_of bs t is =
+-- the lines of the body that a right trailer points to end in LF
+body_ends : (bs : List ℕ) (t : Trailed) → trailer bs ≡ Some t → flat_map with_lf (body_lines bs t) ≡ between t.start t.place bs
+body_ends bs t is =
     let right = trailer_framed bs t is in
-    let frame = right.0 in
     let body = flat_map with_lf (body_lines bs t) in
     let z = line (trailer_line (length (take t.start bs)) t.count) in
-    let split : drop t.start bs ≡ body ++ z = ap (drop t.start) frame.whole ∙ drop_at (take t.start bs) _ t.start right.1 in
-    let long = ap length frame.whole ∙ length-append (take t.start bs) (body ++ z) in
-    let rest_long = length-append body z in
+    let split : drop t.start bs ≡ body ++ z = ap (drop t.start) right.0.whole ∙ drop_at (take t.start bs) _ t.start right.1 in
     let span : t.place - t.start ≡ length body = omega (arith, right.2) in
-    record {
-      order = omega (arith, right.2);
-      within = omega (arith, right.1, right.2);
-      short = frame.short;
-      ended = sym (ap (λ n. take n (drop t.start bs)) span ∙ ap (take (length body)) split ∙ take_at body z (length body) refl);
-    }
+    sym (ap (λ n. take n (drop t.start bs)) span ∙ ap (take (length body)) split ∙ take_at body z (length body) refl)
 
 -- before the first line
-pub at_start : (bs : List ℕ) (t : Trailed) (acts : List Activity) (ps : List Pair) (body : Part) → trailer bs ≡ Some t → body.text.now ≡ between t.start t.place bs → body.place ≡ t.start → Midway bs t acts ps None body 0 acts ps
-at_start bs t acts ps body is text place =
+pub at_start : (bs : List ℕ) (t : Trailed) (r : Reader) (body : Part) → r.sofar ≡ None → trailer bs ≡ Some t → body.text.now ≡ between t.start t.place bs → body.place ≡ t.start → Midway bs t r r body 0
+at_start bs t r body none is text place =
+    let acts = r.activities.now in
+    let ps = r.pairs.now in
     let same : lines body.text.now ≡ body_lines bs t = ap lines text in
+    let sofar : project_in r ≡ None = ap (λ s. sofar_of s acts ps) none in
     record {
-      ended = ap (flat_map with_lf) same ∙ (body_of bs t is).ended ∙ sym text;
-      same = ap (read_after (sizes acts ps) bs) is ∙ ap (λ ls. closed t (length (body_lines bs t)) (read_lines (sizes acts ps) None t.start ls)) (sym same) ∙ ap (λ n. closed t (length (body_lines bs t)) (read_lines (sizes acts ps) None n (lines body.text.now))) (sym place);
+      tables = record { activities = refl; activities_long = refl; pairs = refl; pairs_long = refl };
+      ended = ap (flat_map with_lf) same ∙ body_ends bs t is ∙ sym text;
+      same = ap (read_after (sizes acts ps) bs) is ∙ (λ i. closed t (length (body_lines bs t)) (read_lines (sizes acts ps) (sym sofar i) (sym place i) (sym same i)));
       counts = omega (arith, ap length same);
       few = omega arith;
-      kept = tt;
-      acts_long = refl;
-      pairs_long = refl;
-      acts_are = refl;
-      pairs_are = refl;
+      activities = sym (ap (λ s. filled (take (activities_known s) acts) acts) none);
+      pairs = sym (ap (λ s. filled (take (pairs_known s) ps) ps) none);
     }
 
 -- a project grows by a line
@@ -94,18 +73,22 @@ grows s q k ns p is gives =
     go (Pairing j) = (omega arith, omega (arith, length_push p.pairs (pair_of j ns)))
     go Trailer = (omega arith, omega arith)
 
-grown : (z : Sizes) (sofar : Option Head) (acts : List Activity) (ps : List Pair) (l : List ℕ) (q : Project) → KeptSofar sofar acts ps → judged z (sofar_of sofar acts ps) (formed (resources_of (sofar_of sofar acts ps)) l) ≡ Ok q → (activities_known sofar ≤ length q.activities) × (pairs_known sofar ≤ length q.pairs)
-grown z None acts ps l q k e = (omega arith, omega arith)
-grown z (Some h) acts ps l q k e =
-    let step = step_from_judged z (Some (project_of h acts ps)) l q e in
-    let more = grows (Some (project_of h acts ps)) q step.said.kind step.said.numbers (project_of h acts ps) refl step.gives in
-    let n = length-take-le h.activities acts k.activities in
-    let m = length-take-le h.pairs ps k.pairs in
-    (omega (arith, more.0), omega (arith, more.1))
+resources_same : (s : Option Head) (acts : List Activity) (ps : List Pair) → resources_of (sofar_of s acts ps) ≡ resources_known s
+resources_same None acts ps = refl
+resources_same (Some h) acts ps = refl
 
-known_within : (sofar : Option Head) (acts : List Activity) (ps : List Pair) → KeptSofar sofar acts ps → (activities_known sofar ≤ length acts) × (pairs_known sofar ≤ length ps)
-known_within None acts ps k = (omega arith, omega arith)
-known_within (Some h) acts ps k = (k.activities, k.pairs)
+grown : (r : Reader) (l : List ℕ) (q : Project) → judged (sizes r.activities.now r.pairs.now) (project_in r) (formed (resources_known r.sofar) l) ≡ Ok q → (activities_known r.sofar ≤ length q.activities) × (pairs_known r.sofar ≤ length q.pairs)
+grown r l q e = go r.sofar r.kept e
+  where
+    go : (s : Option Head) → Kept s r.activities.now r.pairs.now → judged (sizes r.activities.now r.pairs.now) (sofar_of s r.activities.now r.pairs.now) (formed (resources_known s) l) ≡ Ok q → (activities_known s ≤ length q.activities) × (pairs_known s ≤ length q.pairs)
+    go None k e = (omega arith, omega arith)
+    go (Some h) k e =
+        let p = project_of h r.activities.now r.pairs.now in
+        let step = step_from_judged (sizes r.activities.now r.pairs.now) (Some p) l q e in
+        let more = grows (Some p) q step.said.kind step.said.numbers p refl step.gives in
+        let n = length-take-le h.activities r.activities.now k.activities in
+        let m = length-take-le h.pairs r.pairs.now k.pairs in
+        (omega (arith, more.0), omega (arith, more.1))
 
 -- more records in front of the same table
 refilled : {A : Type 0} (front xs ys zs : List A) (n : ℕ) → n ≤ length xs → n ≤ length front → xs ≡ filled (take n xs) zs → ys ≡ filled front xs → ys ≡ filled (take (length front) ys) zs
@@ -139,56 +122,53 @@ module _ (left l more : Part) (cut : SplitAt lf left l more) where
   ended_more e =
       append_cancel_left (with_lf l.text.now) _ _ (sym (ap (flat_map with_lf) lines_cut) ∙ e ∙ cut.whole ∙ sym (append_assoc l.text.now (lf ∷ []) more.text.now))
 
-module _ {bs : List ℕ} {t : Trailed} {acts₀ : List Activity} {ps₀ : List Pair} {sofar : Option Head} {left : Part} {count : ℕ} {acts : List Activity} {ps : List Pair} (m : Midway bs t acts₀ ps₀ sofar left count acts ps) (l more : Part) (cut : SplitAt lf left l more) where
-  said : Result Project ℕ
-  said = judged (sizes acts ps) (sofar_of sofar acts ps) (formed (resources_of (sofar_of sofar acts ps)) l.text.now)
+module _ {bs : List ℕ} {t : Trailed} {first old : Reader} {left : Part} {count : ℕ} (m : Midway bs t first old left count) (l more : Part) (cut : SplitAt lf left l more) where
+  abbrev z : Sizes
+  z = sizes first.activities.now first.pairs.now
+
+  abbrev said : Result Project ℕ
+  said = judged (sizes old.activities.now old.pairs.now) (project_in old) (formed (resources_known old.sofar) l.text.now)
 
   -- the line as the definition reads it
-  steps : reading (sizes acts₀ ps₀) bs ≡ closed t (length (body_lines bs t)) (on said (λ n. Err (refused n l.place)) (λ p. read_lines (sizes acts₀ ps₀) (Some p) more.place (lines more.text.now)))
-  unfolding said
+  steps : reading z bs ≡ closed t (length (body_lines bs t)) (on said (λ n. Err (refused n l.place)) (λ p. read_lines z (Some p) more.place (lines more.text.now)))
   steps =
       let one : left.place + suc (length l.text.now) ≡ more.place = omega (arith, cut.after) in
-      m.same ∙ ap (λ ls. closed t (length (body_lines bs t)) (read_lines (sizes acts₀ ps₀) (sofar_of sofar acts ps) left.place ls)) (lines_cut left l more cut)
-      ∙ ap (λ n. closed t (length (body_lines bs t)) (on (judged (sizes acts₀ ps₀) (sofar_of sofar acts ps) (formed (resources_of (sofar_of sofar acts ps)) l.text.now)) (λ k. Err (refused k left.place)) (λ p. read_lines (sizes acts₀ ps₀) (Some p) n (lines more.text.now)))) one
-      ∙ ap (λ n. closed t (length (body_lines bs t)) (on (judged (sizes acts₀ ps₀) (sofar_of sofar acts ps) (formed (resources_of (sofar_of sofar acts ps)) l.text.now)) (λ k. Err (refused k n)) (λ p. read_lines (sizes acts₀ ps₀) (Some p) more.place (lines more.text.now)))) (sym cut.here)
-      ∙ ap (λ z. closed t (length (body_lines bs t)) (on (judged z (sofar_of sofar acts ps) (formed (resources_of (sofar_of sofar acts ps)) l.text.now)) (λ k. Err (refused k l.place)) (λ p. read_lines (sizes acts₀ ps₀) (Some p) more.place (lines more.text.now)))) (λ i. record { activities = sym m.acts_long i; pairs = sym m.pairs_long i })
+      m.same ∙ ap (λ ls. closed t (length (body_lines bs t)) (read_lines z (project_in old) left.place ls)) (lines_cut left l more cut)
+      ∙ (λ i. closed t (length (body_lines bs t)) (on (judged (record { activities = sym m.tables.activities_long i; pairs = sym m.tables.pairs_long i }) (project_in old) (formed (resources_same old.sofar old.activities.now old.pairs.now i) l.text.now)) (λ k. Err (refused k (sym cut.here i))) (λ p. read_lines z (Some p) (one i) (lines more.text.now))))
 
   -- a line that is refused
-  pub refuse : (e : Refusal) (acts' : List Activity) (ps' : List Pair) → Took (judged (sizes acts ps) (sofar_of sofar acts ps) (formed (resources_of (sofar_of sofar acts ps)) l.text.now)) l.place acts ps (Err e) acts' ps' → Reads (reading (sizes acts₀ ps₀) bs) acts₀ ps₀ (Err e) acts' ps'
-  unfolding said
-  refuse e acts' ps' took =
-      subst (λ r. Reads r acts₀ ps₀ (Err e) acts' ps') (sym steps) (go said took)
+  pub refuse : (e : Refusal) (new : Reader) (acts : List Activity) (ps : List Pair) → TookLine said l.place old (Err e) new → Reads (reading z bs) first.activities.now first.pairs.now (Err e) acts ps
+  refuse e new acts ps took =
+      subst (λ r. Reads r first.activities.now first.pairs.now (Err e) acts ps) (sym steps) (go said took)
     where
-      go : (j : Result Project ℕ) → Took j l.place acts ps (Err e) acts' ps' → Reads (closed t (length (body_lines bs t)) (on j (λ n. Err (refused n l.place)) (λ p. read_lines (sizes acts₀ ps₀) (Some p) more.place (lines more.text.now)))) acts₀ ps₀ (Err e) acts' ps'
+      go : (j : Result Project ℕ) → TookLine j l.place old (Err e) new → Reads (closed t (length (body_lines bs t)) (on j (λ n. Err (refused n l.place)) (λ p. read_lines z (Some p) more.place (lines more.text.now)))) first.activities.now first.pairs.now (Err e) acts ps
       go (Ok q) h = let z : ◌≡◌ {A = ℕ} 0 1 = cc h.0 in absurd (omega arith)
-      go (Err n) h = h
+      go (Err n) h = let same : told e ≡ refused n l.place = cc h in ap Err same
 
   -- a line that is taken
-  pub go_on : (h : Head) (acts' : List Activity) (ps' : List Pair) → length acts' ≡ length acts → length ps' ≡ length ps → Took (judged (sizes acts ps) (sofar_of sofar acts ps) (formed (resources_of (sofar_of sofar acts ps)) l.text.now)) l.place acts ps (Ok h) acts' ps' → Midway bs t acts₀ ps₀ (Some h) more (count + 1) acts' ps'
-  unfolding said
-  go_on h acts' ps' la lp took = go said refl took
+  pub go_on : (new : Reader) → SameTables old new → TookLine said l.place old (Ok tt) new → Midway bs t first new more (count + 1)
+  go_on new tables took = go said refl took
     where
-      at_head : (q : Project) → said ≡ Ok q → acts' ≡ filled q.activities acts → ps' ≡ filled q.pairs ps → Kept (head_of q) acts' ps' → Midway bs t acts₀ ps₀ (Some (head_of q)) more (count + 1) acts' ps'
-      at_head q e fa fp kept =
-          let grow = grown (sizes acts ps) sofar acts ps l.text.now q m.kept e in
-          let n = ap length (lines_cut left l more cut) in
-          record {
-            ended = ended_more left l more cut m.ended;
-            same = steps ∙ ap (λ j. closed t (length (body_lines bs t)) (on j (λ k. Err (refused k l.place)) (λ p. read_lines (sizes acts₀ ps₀) (Some p) more.place (lines more.text.now)))) e ∙ ap (λ p. closed t (length (body_lines bs t)) (read_lines (sizes acts₀ ps₀) (Some p) more.place (lines more.text.now))) (sym (held q acts' ps' acts ps fa fp));
-            counts = omega (arith, m.counts);
-            few = omega (arith, m.few, cut.after);
-            kept = kept;
-            acts_long = la ∙ m.acts_long;
-            pairs_long = lp ∙ m.pairs_long;
-            acts_are = refilled q.activities acts acts' acts₀ (activities_known sofar) (known_within sofar acts ps m.kept).0 grow.0 m.acts_are fa;
-            pairs_are = refilled q.pairs ps ps' ps₀ (pairs_known sofar) (known_within sofar acts ps m.kept).1 grow.1 m.pairs_are fp;
-          }
-
-      go : (j : Result Project ℕ) → said ≡ j → Took j l.place acts ps (Ok h) acts' ps' → Midway bs t acts₀ ps₀ (Some h) more (count + 1) acts' ps'
+      go : (j : Result Project ℕ) → said ≡ j → TookLine j l.place old (Ok tt) new → Midway bs t first new more (count + 1)
       go (Err n) e k = let z : ◌≡◌ {A = ℕ} 0 1 = cc k in absurd (omega arith)
       go (Ok q) e k =
-          let same : head_of q ≡ h = cc k.0 in
-          subst (λ x. Midway bs t acts₀ ps₀ (Some x) more (count + 1) acts' ps') same (at_head q e k.1 k.2 k.3)
+          let grow = grown old l.text.now q e in
+          let n = ap length (lines_cut left l more cut) in
+          let here : project_in new ≡ Some q = ap (λ s. sofar_of s new.activities.now new.pairs.now) k.1 ∙ ap Some (held q new.activities.now new.pairs.now old.activities.now old.pairs.now k.2 k.3) in
+          record {
+            tables = record {
+              activities = tables.activities ∙ m.tables.activities;
+              activities_long = tables.activities_long ∙ m.tables.activities_long;
+              pairs = tables.pairs ∙ m.tables.pairs;
+              pairs_long = tables.pairs_long ∙ m.tables.pairs_long;
+            };
+            ended = ended_more left l more cut m.ended;
+            same = steps ∙ ap (λ j. closed t (length (body_lines bs t)) (on j (λ k. Err (refused k l.place)) (λ p. read_lines z (Some p) more.place (lines more.text.now)))) e ∙ ap (λ s. closed t (length (body_lines bs t)) (read_lines z s more.place (lines more.text.now))) (sym here);
+            counts = omega (arith, m.counts);
+            few = omega (arith, m.few, cut.after);
+            activities = refilled q.activities old.activities.now new.activities.now first.activities.now (activities_known old.sofar) old.kept.activities grow.0 m.activities k.2 ∙ ap (λ s. filled (take (activities_known s) new.activities.now) first.activities.now) (sym k.1);
+            pairs = refilled q.pairs old.pairs.now new.pairs.now first.pairs.now (pairs_known old.sofar) old.kept.pairs grow.1 m.pairs k.3 ∙ ap (λ s. filled (take (pairs_known s) new.pairs.now) first.pairs.now) (sym k.1);
+          }
 
 -- what ends and has no LF is empty
 has_lf : (l tail : List ℕ) → Without lf (with_lf l ++ tail) → ⊥
@@ -206,27 +186,28 @@ abbrev pub told_by : Found → Trailed
 told_by t = record { place = t.place; start = t.start; count = t.count }
 
 -- no line is left
-pub finish : (bs : List ℕ) (last : Found) (acts₀ : List Activity) (ps₀ : List Pair) (sofar : Option Head) (left : Part) (count : ℕ) (acts : List Activity) (ps : List Pair) (r : Result Head Refusal) → Midway bs (told_by last) acts₀ ps₀ sofar left count acts ps → Without lf left.text.now → answer r ≡ closing last count sofar → Reads (reading (sizes acts₀ ps₀) bs) acts₀ ps₀ r acts ps
-finish bs last acts₀ ps₀ sofar left count acts ps r m free closes =
-    let none = no_lines left.text.now free m.ended in
-    let n : length (body_lines bs (told_by last)) ≡ count = omega (arith, m.counts, ap length none) in
-    let whole : reading (sizes acts₀ ps₀) bs ≡ closed (told_by last) count (Ok (sofar_of sofar acts ps)) = m.same ∙ ap (λ ls. closed (told_by last) (length (body_lines bs (told_by last))) (read_lines (sizes acts₀ ps₀) (sofar_of sofar acts ps) left.place ls)) none ∙ ap (λ k. closed (told_by last) k (Ok (sofar_of sofar acts ps))) n in
-    subst (λ x. Reads x acts₀ ps₀ r acts ps) (sym whole) (go sofar m.kept m.acts_are m.pairs_are closes)
-  where
-    go : (sofar : Option Head) → KeptSofar sofar acts ps → acts ≡ filled (take (activities_known sofar) acts) acts₀ → ps ≡ filled (take (pairs_known sofar) ps) ps₀ → answer r ≡ closing last count sofar → Reads (closed (told_by last) count (Ok (sofar_of sofar acts ps))) acts₀ ps₀ r acts ps
-    go None kept fa fp closes = closes
-    go (Some h) kept fa fp closes =
-        let k = length-take-le h.activities acts kept.activities in
-        let j = length-take-le h.pairs ps kept.pairs in
-        subst (λ x. Reads (cond (eqb last.count count && leb 1 x) (Ok (project_of h acts ps)) (Err (refused 7 last.place))) acts₀ ps₀ r acts ps) (sym k) (by k j (eqb last.count count && leb 1 h.activities) closes)
-      where
-        by : length (take h.activities acts) ≡ h.activities → length (take h.pairs ps) ≡ h.pairs → (b : Bool) → answer r ≡ cond b (Ok h) (Err (refused 7 last.place)) → Reads (cond b (Ok (project_of h acts ps)) (Err (refused 7 last.place))) acts₀ ps₀ r acts ps
-        by k j true e = (
-          answer_ok r h e ∙ ap Ok (λ i. record { activities = sym k i; resources = h.resources; capacities = h.capacities; pairs = sym j i }),
-          fa,
-          fp,
-        )
-        by k j false e = e
+module _ (bs : List ℕ) (last : Found) (first r : Reader) (a : Result Head Refusal) (acts : List Activity) (ps : List Pair) (acts_are : acts ≡ r.activities.now) (ps_are : ps ≡ r.pairs.now) where
+  closes : (count : ℕ) (s : Option Head) → Kept s acts ps → acts ≡ filled (take (activities_known s) acts) first.activities.now → ps ≡ filled (take (pairs_known s) ps) first.pairs.now → answer a ≡ closing last count s → Reads (closed (told_by last) count (Ok (sofar_of s acts ps))) first.activities.now first.pairs.now a acts ps
+  closes count None kept fa fp e = e
+  closes count (Some h) kept fa fp e =
+      let k = length-take-le h.activities acts kept.activities in
+      let j = length-take-le h.pairs ps kept.pairs in
+      subst (λ x. Reads (cond (eqb last.count count && leb 1 x) (Ok (project_of h acts ps)) (Err (refused 7 last.place))) first.activities.now first.pairs.now a acts ps) (sym k) (by k j (eqb last.count count && leb 1 h.activities) e)
+    where
+      by : length (take h.activities acts) ≡ h.activities → length (take h.pairs ps) ≡ h.pairs → (b : Bool) → answer a ≡ cond b (Ok h) (Err (refused 7 last.place)) → Reads (cond b (Ok (project_of h acts ps)) (Err (refused 7 last.place))) first.activities.now first.pairs.now a acts ps
+      by k j true e = (
+        answer_ok a h e ∙ ap Ok (λ i. record { activities = sym k i; resources = h.resources; capacities = h.capacities; pairs = sym j i }),
+        fa,
+        fp,
+      )
+      by k j false e = e
+
+  pub finish : (left : Part) (count : ℕ) → Midway bs (told_by last) first r left count → Without lf left.text.now → answer a ≡ closing last count r.sofar → Reads (reading (sizes first.activities.now first.pairs.now) bs) first.activities.now first.pairs.now a acts ps
+  finish left count m free e =
+      let none = no_lines left.text.now free m.ended in
+      let n : length (body_lines bs (told_by last)) ≡ count = omega (arith, m.counts, ap length none) in
+      let whole : reading (sizes first.activities.now first.pairs.now) bs ≡ closed (told_by last) count (Ok (sofar_of r.sofar acts ps)) = m.same ∙ (λ i. closed (told_by last) (n i) (read_lines (sizes first.activities.now first.pairs.now) (sofar_of r.sofar (sym acts_are i) (sym ps_are i)) left.place (none i))) in
+      subst (λ x. Reads x first.activities.now first.pairs.now a acts ps) (sym whole) (closes count r.sofar (subst (λ l. Kept r.sofar l ps) (sym acts_are) (subst (λ l. Kept r.sofar r.activities.now l) (sym ps_are) r.kept)) (subst (λ l. l ≡ filled (take (activities_known r.sofar) l) first.activities.now) (sym acts_are) m.activities) (subst (λ l. l ≡ filled (take (pairs_known r.sofar) l) first.pairs.now) (sym ps_are) m.pairs) e)
 
 -- a refusal is one whatever the tables hold
 pub refusal : (o : Result Project Refused) (acts : List Activity) (ps : List Pair) (r : Result Head Refusal) (acts' : List Activity) (ps' : List Pair) → Reads o acts ps r acts' ps' → true ≡ is_err r → length acts' ≡ length acts → length ps' ≡ length ps → (answer r ≡ head_answer o) × (replicate (length acts') blank_activity ≡ activities_after o acts) × (replicate (length ps') blank_pair ≡ pairs_after o ps)

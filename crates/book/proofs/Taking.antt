@@ -17,7 +17,7 @@ use Rattle.book.specs.declared.lines.LineKind.TheVariants.{Capacities, Job, Pair
 use Rattle.book.specs.Accepted.{sizes}
 use Rattle.book.specs.Lines.{most}
 use Rattle.book.specs.Reading.{activity_of, pair_of, opened, with_activity, with_pair, is_nil, at_most, judged}
-use Rattle.book.specs.Steps.{sofar_of, Kept, KeptSofar, content_in, Ready, opening, activity_judged, pair_judged, activity_more, pair_more, Put, Took}
+use Rattle.book.specs.Steps.{sofar_of, Kept, content_in, Ready, opening, activity_judged, pair_judged, activity_more, pair_more, Put, Took}
 
 module _ {A : Type 0} (xs : List A) (n : ℕ) where
   pub filled_push : (a : A) → n < length xs → filled (take n xs ++ a ∷ []) xs ≡ set xs n a
@@ -36,7 +36,7 @@ nil_test [] (suc m) le = absurd (omega arith)
 nil_test (x ∷ xs) (suc m) le = sym (ap not (lt-ltb 0 (suc m) (omega arith)))
 
 -- A J line.
-module _ (h : Head) (acts : List Activity) (ps : List Pair) (kept : Kept h acts ps) (place : ℕ) where
+module _ (h : Head) (acts : List Activity) (ps : List Pair) (kept : Kept (Some h) acts ps) (place : ℕ) where
   p : Project
   p = project_of h acts ps
 
@@ -127,9 +127,9 @@ module _ (s : Option Head) (l : Line) (place : ℕ) (acts : List Activity) (ps :
         let few : length ns ≤ most_resources = subst (λ x. length x ≤ most_resources) (sym is) (subst (λ k. length l.numbers.items ≤ most most_resources k) f ready.few) in
         at_line None Capacities ns r acts ps e f is (take_capacities ns acts ps place r few (answers ∙ ap (λ o. ok_or o (OverLimit place)) opens))
 
-    module _ (h : Head) (e : s ≡ Some h) (kept : KeptSofar s acts ps) where
-      known : Kept h acts ps
-      known = subst (λ t. KeptSofar t acts ps) e kept
+    module _ (h : Head) (e : s ≡ Some h) (kept : Kept s acts ps) where
+      known : Kept (Some h) acts ps
+      known = subst (λ t. Kept t acts ps) e kept
 
       pub line_job : l.kind ≡ Job → (r : Result Head Refusal) (acts' : List Activity) → Put (activity_judged h ns acts) place (activity_more h) h.activities acts r acts' → Took (judged (sizes acts ps) (sofar_of s acts ps) (Some (content_in l))) place acts ps r acts' ps
       line_job f r acts' put =
@@ -138,3 +138,10 @@ module _ (s : Option Head) (l : Line) (place : ℕ) (acts : List Activity) (ps :
       pub line_pair : (k : Kind) → l.kind ≡ Pairing k → (r : Result Head Refusal) (ps' : List Pair) → Put (pair_judged h k ns ps) place (pair_more h) h.pairs ps r ps' → Took (judged (sizes acts ps) (sofar_of s acts ps) (Some (content_in l))) place acts ps r acts ps'
       line_pair k f r ps' put =
           at_line (Some h) (Pairing k) ns r acts ps' e f is (take_pair h acts ps known place k ns r ps' put)
+
+-- the head that a line gives is within the limits, and the tables have its records
+pub took_kept : (j : Result Project ℕ) (place : ℕ) (acts : List Activity) (ps : List Pair) (h : Head) (acts' : List Activity) (ps' : List Pair) → Took j place acts ps (Ok h) acts' ps' → Kept (Some h) acts' ps'
+took_kept (Ok p) place acts ps h acts' ps' took =
+    let same : head_of p ≡ h = cc took.0 in
+    subst (λ x. Kept (Some x) acts' ps') same took.3
+took_kept (Err n) place acts ps h acts' ps' took = let z : ◌≡◌ {A = ℕ} 0 1 = cc took in absurd (omega arith)

@@ -6,4 +6,5 @@ pub mod Reading
 pub mod Saying
 pub mod Steps
 pub mod Texts
+pub mod Took
 pub mod Written

@@ -19,16 +19,24 @@ abbrev pub sofar_of : Option Head → List Activity → List Pair → Sofar
 sofar_of None acts ps = None
 sofar_of (Some h) acts ps = Some (project_of h acts ps)
 
--- the tables have the head's records, and the head is within the limits
-pub record Kept (h : Head) (acts : List Activity) (ps : List Pair) : Type 0 where
-  pub activities : h.activities ≤ length acts
-  pub pairs : h.pairs ≤ length ps
-  pub few : h.activities ≤ most_activities
-  pub resources : h.resources ≤ most_resources
+abbrev pub activities_known : Option Head → ℕ
+activities_known None = 0
+activities_known (Some h) = h.activities
 
-abbrev pub KeptSofar : Option Head → List Activity → List Pair → Type 0
-KeptSofar None acts ps = Unit {0}
-KeptSofar (Some h) acts ps = Kept h acts ps
+abbrev pub pairs_known : Option Head → ℕ
+pairs_known None = 0
+pairs_known (Some h) = h.pairs
+
+abbrev pub resources_known : Option Head → ℕ
+resources_known None = 0
+resources_known (Some h) = h.resources
+
+-- the tables have the head's records, and the head is within the limits
+pub record Kept (s : Option Head) (acts : List Activity) (ps : List Pair) : Type 0 where
+  pub activities : activities_known s ≤ length acts
+  pub pairs : pairs_known s ≤ length ps
+  pub few : activities_known s ≤ most_activities
+  pub resources : resources_known s ≤ most_resources
 
 abbrev pub content_in : Line → Content
 content_in l = record { kind = l.kind; numbers = l.numbers.items }
@@ -40,14 +48,18 @@ at_most limit n = cond (nat_le n limit) (Some n) None
 abbrev pub opening : List ℕ → Option Head
 opening ns = cond (within (padded ns) (replicate most_resources most_capacity)) (Some (head_of (opened ns))) None
 
+-- a project and the table have room for one more
+abbrev pub has_room : {A : Type 0} → ℕ → ℕ → List A → Bool
+has_room held most xs = nat_lt held most && nat_lt held (length xs)
+
 -- the activity to add, or the number of what is wrong with it
 abbrev pub activity_judged : Head → List ℕ → List Activity → Result Activity ℕ
 activity_judged h ns acts =
-    cond (nat_lt 0 h.pairs) (Err 3) (cond (activity_fits h.capacities (activity_of ns)) (cond (nat_lt h.activities most_activities && nat_lt h.activities (length acts)) (Ok (activity_of ns)) (Err 6)) (Err 4))
+    cond (nat_lt 0 h.pairs) (Err 3) (cond (activity_fits h.capacities (activity_of ns)) (cond (has_room h.activities most_activities acts) (Ok (activity_of ns)) (Err 6)) (Err 4))
 
 abbrev pub pair_judged : Head → Kind → List ℕ → List Pair → Result Pair ℕ
 pair_judged h k ns ps =
-    cond (proper h.activities (pair_of k ns) && follows (take h.pairs ps) (pair_of k ns)) (cond (nat_lt h.pairs most_pairs && nat_lt h.pairs (length ps)) (Ok (pair_of k ns)) (Err 6)) (Err 5)
+    cond (proper h.activities (pair_of k ns) && follows (take h.pairs ps) (pair_of k ns)) (cond (has_room h.pairs most_pairs ps) (Ok (pair_of k ns)) (Err 6)) (Err 5)
 
 abbrev pub activity_more : Head → Head
 activity_more h = record { activities = h.activities + 1; resources = h.resources; capacities = h.capacities; pairs = h.pairs }
@@ -74,7 +86,7 @@ Put (Err n) place h i xs r ys = (answer r ≡ Err (refused n place)) × (ys ≡ 
 
 -- the tables hold the project p, and r is its head; or the line was refused
 abbrev pub Took : Result Project ℕ → ℕ → List Activity → List Pair → Result Head Refusal → List Activity → List Pair → Type 0
-Took (Ok p) place acts ps r acts' ps' = (r ≡ Ok (head_of p)) × (acts' ≡ filled p.activities acts) × (ps' ≡ filled p.pairs ps) × Kept (head_of p) acts' ps'
+Took (Ok p) place acts ps r acts' ps' = (r ≡ Ok (head_of p)) × (acts' ≡ filled p.activities acts) × (ps' ≡ filled p.pairs ps) × Kept (Some (head_of p)) acts' ps'
 Took (Err n) place acts ps r acts' ps' = answer r ≡ Err (refused n place)
 
 abbrev pub trailer_told : Option Found → Option Trailed

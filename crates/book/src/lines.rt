@@ -1,8 +1,9 @@
 // The lines of a book: a letter that tells the kind of line, and numbers.
-ghost use Rattle.std.specs.Prelude.{◌≡◌, ◌≤◌};
+ghost use Rattle.std.specs.Prelude.{◌≡◌, ◌≤◌, IfOk};
 ghost use Rattle.std.specs.Result.{result_ok};
 ghost use Rattle.book.specs.Lines.{kind_of, fewest, most, numerals};
 ghost use Rattle.book.specs.Cuts.{left, place_of, said};
+ghost use Rattle.book.specs.Steps.{Ready};
 ghost use Rattle.book.specs.Parsed.{NumbersRead, LineRead, in_range, most_numbers};
 ghost use Rattle.project.specs.Project.{most_resources};
 
@@ -128,7 +129,8 @@ pub(crate) fn read_line(
     resources: usize,
 ) -> Result<Line, Refusal>
     requires { resources ≤ most_resources }
-    ensures { LineRead (said resources letter.entry words.entry) (place_of letter.entry) result }
+    ensures said { LineRead (said resources letter.entry words.entry) (place_of letter.entry) result }
+    ensures ready { IfOk result Ready }
 {
     let place = letter.place();
     let Some(kind) = letter.kind() else {

@@ -1,5 +1,5 @@
 // Reading a book into lent tables, line by line.
-ghost use Rattle.std.specs.Prelude.{◌≡◌, ℕ, ◌-◌, ◌≤◌, false, ◌&&◌, ◌↔◌, List, [], length, replicate, if◌then◌else◌, Some, None, Ok, Err};
+ghost use Rattle.std.specs.Prelude.{◌≡◌, ℕ, ◌+◌, ◌-◌, ◌≤◌, slice_set, false, ◌&&◌, ◌↔◌, List, [], length, replicate, if◌then◌else◌, Some, None, Ok, Err};
 ghost use Rattle.std.specs.List.{suffix_len};
 ghost use Rattle.project.specs.Project.{Project, within, activity_fits, proper, follows, is_blank, most_activities, most_resources, blank_activity, blank_pair};
 ghost use Rattle.project.specs.Refusals.{Refused, refused, answer};
@@ -8,7 +8,7 @@ ghost use Rattle.book.specs.Lines.{formed};
 ghost use Rattle.book.specs.Parsed.{most_numbers};
 ghost use Rattle.book.specs.Reading.{judged, not_lf, resources_of, padded, activity_of, trailed, trailer, reading, head_answer, activities_after, pairs_after, pair_of};
 ghost use Rattle.book.specs.Written.{written};
-ghost use Rattle.book.specs.Steps.{activity_judged, pair_judged, opening, at_most, Ready, activity_more, pair_more, Put, Took, KeptSofar, sofar_of, content_in, trailer_told, closing, Reads};
+ghost use Rattle.book.specs.Steps.{has_room, activity_judged, pair_judged, opening, at_most, Ready, activity_more, pair_more, Put, Took, Kept, resources_known, content_in, trailer_told, closing, Reads};
 
 use crate::lines::{Line, LineKind, Lines, read_line};
 use crate::words::{LF, Part, Words};
@@ -30,6 +30,15 @@ struct Trailer {
     count: usize,
 }
 
+// What the lines so far give: a head, of which there is none before the C line, and its records in the lent tables.
+#[derive(Drop)]
+struct Reader<'t> {
+    sofar: Option<Head>,
+    activities: &'t mut [Activity],
+    pairs: &'t mut [Pair],
+    ghost kept: { Kept sofar activities.now pairs.now },
+}
+
 // The number, if it is at most the limit.
 fn at_most(limit: u8, number: u32) -> Option<u8>
     ensures { result ≡ at_most limit number }
@@ -43,6 +52,7 @@ fn bounded(numbers: &[u32], limits: &[u8; MOST_RESOURCES]) -> Option<[u8; MOST_R
     ensures { result ≡ (if within (padded numbers.now) limits.now then Some (padded numbers.now) else None) }
 {
     let mut bytes = [0; MOST_RESOURCES];
+    // By place: a proof knows nothing of what is written through a `zip` of `iter_mut`.
     for (k, number) in numbers.iter().enumerate() {
         bytes[k] = at_most(limits[k], *number)?;
     }
@@ -82,7 +92,10 @@ fn pair_of(kind: Kind, numbers: &[u32], activities: usize, before: &[Pair]) -> O
         first,
         second,
     };
-    can_follow(&pair, before).then_some(pair)
+    if !can_follow(&pair, before) {
+        return None;
+    }
+    Some(pair)
 }
 
 // The head of a project that has the capacities of a C line and nothing else yet, if they are within their limit.
@@ -96,6 +109,18 @@ fn open_head(numbers: &[u32]) -> Option<Head>
         capacities: bounded(numbers, &[MOST_CAPACITY; MOST_RESOURCES])?,
         pairs: 0,
     })
+}
+
+// Puts an item into a table after those that it holds, and answers how many it holds then, if there is room for one more.
+fn put<T: Copy>(item: T, held: usize, most: usize, table: &mut [T]) -> Option<usize>
+    ensures held { result ≡ (if has_room held most table.old then Some (held + 1) else None) }
+    ensures put { table.new ≡ (if has_room held most table.old then slice_set table.old held item else table.old) }
+{
+    if held >= most || held >= table.len() {
+        return None;
+    }
+    table[held] = item;
+    Some(held + 1)
 }
 
 fn add_activity(
@@ -114,13 +139,11 @@ fn add_activity(
     let Some(activity) = activity_of(numbers, &head.capacities) else {
         return Err(Refusal::OverLimit(place));
     };
-    let n = head.activities;
-    if n >= MOST_ACTIVITIES || n >= activities.len() {
+    let Some(held) = put(activity, head.activities, MOST_ACTIVITIES, activities) else {
         return Err(Refusal::TooMany(place));
-    }
-    activities[n] = activity;
+    };
     Ok(Head {
-        activities: n + 1,
+        activities: held,
         ..head
     })
 }
@@ -138,55 +161,64 @@ fn add_pair(
     requires two { length numbers.now ≡ 2 }
     ensures { Put (pair_judged head kind numbers.now pairs.old) place (pair_more head) head.pairs pairs.old result pairs.new }
 {
-    let m = head.pairs;
-    let Some(pair) = pair_of(kind, numbers, head.activities, &pairs[..m]) else {
+    let Some(pair) = pair_of(kind, numbers, head.activities, &pairs[..head.pairs]) else {
         return Err(Refusal::BadPair(place));
     };
-    if m >= MOST_PAIRS || m >= pairs.len() {
+    let Some(held) = put(pair, head.pairs, MOST_PAIRS, pairs) else {
         return Err(Refusal::TooMany(place));
-    }
-    pairs[m] = pair;
+    };
     Ok(Head {
-        pairs: m + 1,
+        pairs: held,
         ..head
     })
 }
 
-// Takes one line into the tables. `sofar` is the head of the lines before, and there is none before the C line.
-fn take_line(
-    sofar: Option<Head>,
-    line: &Line,
-    place: usize,
-    activities: &mut [Activity],
-    pairs: &mut [Pair],
-) -> Result<Head, Refusal>
-    requires ready { Ready line.now }
-    requires kept { KeptSofar sofar activities.old pairs.old }
-    ensures { Took (judged (sizes activities.old pairs.old) (sofar_of sofar activities.old pairs.old) (Some (content_in line.now))) place activities.old pairs.old result activities.new pairs.new }
-{
-    let numbers = line.numbers.as_slice();
-    match (sofar, line.kind) {
-        (None, LineKind::Capacities) => open_head(numbers).ok_or(Refusal::OverLimit(place)),
-        (Some(head), LineKind::Job) => add_activity(head, numbers, place, activities),
-        (Some(head), LineKind::Pairing(kind)) => add_pair(head, kind, numbers, place, pairs),
-        _ => Err(Refusal::OutOfOrder(place)),
-    }
-}
+impl<'t> Reader<'t> {
+    ghost use Rattle.book.specs.Took.{SameTables, TookLine, project_in};
 
-// Reads a line of the book, and takes it into the tables.
-fn read_one(
-    line: Part<'_>,
-    sofar: Option<Head>,
-    activities: &mut [Activity],
-    pairs: &mut [Pair],
-) -> Result<Head, Refusal>
-    requires { KeptSofar sofar activities.old pairs.old }
-    ensures { Took (judged (sizes activities.old pairs.old) (sofar_of sofar activities.old pairs.old) (formed (resources_of (sofar_of sofar activities.old pairs.old)) line.entry.text.now)) line.entry.place activities.old pairs.old result activities.new pairs.new }
-{
-    let (letter, words) = Words::first(line);
-    let resources = sofar.map_or(0, |head| head.resources);
-    let said = read_line(letter, words, resources)?;
-    take_line(sofar, &said, line.place, activities, pairs)
+    // A reader that has read no line.
+    fn new(activities: &'t mut [Activity], pairs: &'t mut [Pair]) -> Reader<'t>
+        ensures none { result.sofar ≡ None }
+        ensures activities { (result.activities.ghost_name ≡ activities.entry.ghost_name) × (result.activities.now ≡ activities.old) }
+        ensures pairs { (result.pairs.ghost_name ≡ pairs.entry.ghost_name) × (result.pairs.now ≡ pairs.old) }
+    {
+        Reader {
+            sofar: None,
+            activities,
+            pairs,
+        }
+    }
+
+    // Takes one line into the tables, and answers the head with it.
+    fn take(&mut self, line: &Line, place: usize) -> Result<Head, Refusal>
+        requires { Ready line.now }
+        ensures took { Took (judged (sizes self.old.activities.now self.old.pairs.now) (project_in self.old) (Some (content_in line.now))) place self.old.activities.now self.old.pairs.now result self.new.activities.now self.new.pairs.now }
+        ensures sofar { self.new.sofar ≡ self.old.sofar }
+        ensures same { SameTables self.old self.new }
+    {
+        let numbers = line.numbers.as_slice();
+        match (self.sofar, line.kind) {
+            (None, LineKind::Capacities) => open_head(numbers).ok_or(Refusal::OverLimit(place)),
+            (Some(head), LineKind::Job) => add_activity(head, numbers, place, self.activities),
+            (Some(head), LineKind::Pairing(kind)) => {
+                add_pair(head, kind, numbers, place, self.pairs)
+            }
+            _ => Err(Refusal::OutOfOrder(place)),
+        }
+    }
+
+    // Reads a line of the book, and takes it into the tables.
+    fn read(&mut self, line: Part<'_>) -> Result<(), Refusal>
+        ensures took { TookLine (judged (sizes self.old.activities.now self.old.pairs.now) (project_in self.old) (formed (resources_known self.old.sofar) line.entry.text.now)) line.entry.place self.old result self.new }
+        ensures same { SameTables self.old self.new }
+    {
+        let (letter, words) = Words::first(line);
+        let resources = self.sofar.map_or(0, |head| head.resources);
+        let said = read_line(letter, words, resources)?;
+        let head = self.take(&said, line.place)?;
+        self.sofar = Some(head);
+        Ok(())
+    }
 }
 
 // The last step: the trailer counts the lines, and there is an activity.
@@ -208,8 +240,8 @@ fn point(book: &[u8], place: usize, line: &Line) -> Option<Trailer>
     let (LineKind::Trailer, [start, count]) = (line.kind, line.numbers.as_slice()) else {
         return None;
     };
-    let start = *start as usize;
-    let count = *count as usize;
+    let start = usize::try_from(*start).ok()?;
+    let count = usize::try_from(*count).ok()?;
     if start > place || (start > 0 && book[start - 1] != LF) {
         return None;
     }
@@ -263,13 +295,13 @@ fn read_body(
         text: &book[last.start..last.place],
         place: last.start,
     };
-    let mut sofar = None;
+    let mut reader = Reader::new(activities, pairs);
     let mut count = 0;
     for line in (Lines { left: body }) {
-        sofar = Some(read_one(line, sofar, activities, pairs)?);
+        reader.read(line)?;
         count += 1;
     }
-    close(sofar, count, last)
+    close(reader.sofar, count, last)
 }
 
 fn read_project(

@@ -72,7 +72,10 @@ impl<'a> Part<'a> {
 fn is_numeral(word: &[u8]) -> bool
     ensures { result ≡ is_numeral word.now }
 {
-    if word.is_empty() || word.len() > MOST_DIGITS || (word[0] == b'0' && word.len() > 1) {
+    if let [] | [b'0', _, ..] = word {
+        return false;
+    }
+    if word.len() > MOST_DIGITS {
         return false;
     }
     word.iter().all(|b| b.is_ascii_digit())

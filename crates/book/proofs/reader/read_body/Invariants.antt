@@ -2,5 +2,4 @@ use Rattle.book.proofs.Looping.{Midway, told_by}
 use Rattle.book.proofs.reader.read_body.Given as goal
 
 abbrev pub invariant-loop-line : goal.invariant-loop-line
-invariant-loop-line l =
-    Midway l.book (told_by l.last) l.initial.activities l.initial.pairs l.sofar l.line-iterator.left l.count l.activities l.pairs
+invariant-loop-line l = Midway l.book (told_by l.last) l.initial.reader l.reader l.line-iterator.left l.count

@@ -2,7 +2,6 @@
 #![tactic(auto)]
 
 ghost use Rattle.std.specs.Prelude.{◌≡◌, ◌≤◌, [], ◌∷◌, length};
-ghost use Rattle.numerals.specs.Puts.{PutIfRoom};
 
 use itoa::{Buffer, Integer};
 
@@ -22,6 +21,8 @@ pub struct Page<'a> {
 }
 
 impl<'a> Page<'a> {
+    ghost use Rattle.numerals.specs.Pages.{Writes};
+
     pub fn new(bytes: &'a mut [u8]) -> Page<'a>
         ensures same_reference { result.bytes.ghost_name ≡ bytes.entry.ghost_name }
         ensures bytes { result.bytes.now ≡ bytes.old }
@@ -33,8 +34,7 @@ impl<'a> Page<'a> {
     // Each of these writes a piece, and moves the place after it. Where there is no room, it writes nothing and the place stays: no Result, which
     // callers who see to the room first would only unwrap.
     pub fn write_bytes(&mut self, piece: &[u8])
-        ensures same_reference { self.new.bytes.ghost_name ≡ self.old.bytes.ghost_name }
-        ensures put { PutIfRoom self.old.bytes.now self.new.bytes.now self.old.at self.new.at piece.now }
+        ensures { Writes piece.now self.old self.new }
     {
         if self.at > self.bytes.len() || piece.len() > self.bytes.len() - self.at {
             return;
@@ -45,15 +45,13 @@ impl<'a> Page<'a> {
     }
 
     pub fn write_byte(&mut self, byte: u8)
-        ensures same_reference { self.new.bytes.ghost_name ≡ self.old.bytes.ghost_name }
-        ensures put { PutIfRoom self.old.bytes.now self.new.bytes.now self.old.at self.new.at (byte ∷ []) }
+        ensures { Writes (byte ∷ []) self.old self.new }
     {
         self.write_bytes(&[byte]);
     }
 
     pub fn write_number<I: Integer>(&mut self, number: I)
-        ensures same_reference { self.new.bytes.ghost_name ≡ self.old.bytes.ghost_name }
-        ensures put { PutIfRoom self.old.bytes.now self.new.bytes.now self.old.at self.new.at (I.text number) }
+        ensures { Writes (I.text number) self.old self.new }
     {
         self.write_bytes(Buffer::new().format(number).as_bytes());
     }

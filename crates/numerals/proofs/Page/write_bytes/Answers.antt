@@ -3,9 +3,12 @@ use Rattle.std.proofs.lemmas.Slice.{put_mid-paste}
 use Rattle.numerals.specs.Puts.{put}
 use Rattle.numerals.proofs.Page.write_bytes.Goals as goal
 
-pub returns-clause-put : goal.returns-clause-put
+pub returns : goal.returns
 unfolding put
-returns-clause-put c = record {
-  room = λ _. record { ends = refl; bytes = put_mid-paste _ _ _ _ _ _ c.copy_from_slice.ensures.after (omega arith) refl };
-  short = λ lt. absurd (omega arith);
+returns c = record {
+  same_reference = refl;
+  put = record {
+    room = λ _. record { ends = refl; bytes = put_mid-paste _ _ _ _ _ _ c.copy_from_slice.ensures.after (omega arith) refl };
+    short = λ lt. absurd (omega arith);
+  };
 }

@@ -52,7 +52,7 @@ fn bounded(numbers: &[u32], limits: &[u8; MOST_RESOURCES]) -> Option<[u8; MOST_R
     ensures { result ≡ (if within (padded numbers.now) limits.now then Some (padded numbers.now) else None) }
 {
     let mut bytes = [0; MOST_RESOURCES];
-    // By place: a proof knows nothing of what is written through a `zip` of `iter_mut`.
+    // By place: tried with a `zip` of `iter_mut`, a proof knows nothing of the bytes after the loop.
     for (k, number) in numbers.iter().enumerate() {
         bytes[k] = at_most(limits[k], *number)?;
     }
@@ -123,6 +123,7 @@ fn put<T: Copy>(item: T, held: usize, most: usize, table: &mut [T]) -> Option<us
     Some(held + 1)
 }
 
+// This and the next take the place of their line, since each may refuse it for several reasons.
 fn add_activity(
     head: Head,
     numbers: &[u32],
@@ -296,6 +297,7 @@ fn read_body(
         place: last.start,
     };
     let mut reader = Reader::new(activities, pairs);
+    // The trailer has to count the lines.
     let mut count = 0;
     for line in (Lines { left: body }) {
         reader.read(line)?;

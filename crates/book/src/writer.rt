@@ -26,7 +26,7 @@ const MOST_LINE_BYTES: usize = 2 + MOST_NUMBERS * MOST_SPACED;
 
 type LineText = ArrayVec<u8, MOST_LINE_BYTES>;
 
-// The letter that tells a kind of line. No line is of a blank pair.
+// The letter that tells a kind of line. No line is of a blank pair, which has none: 0 stands for it, so that the conversion cannot fail.
 impl From<LineKind> for u8 {
     ghost use Rattle.std.specs.Prelude.{◌≡◌};
     ghost use Rattle.book.specs.Lines.{letter};

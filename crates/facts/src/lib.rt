@@ -113,10 +113,7 @@ mod tests {
     #[test]
     fn one_byte_too_few_writes_nothing(rt: HostRuntime) {
         let mut out = [7; 28];
-        assert_eq!(rt;
-            book::write(TABLES, &mut out),
-            Err(Refusal::ShortBuffer)
-        );
+        assert_eq!(rt; book::write(TABLES, &mut out), Err(Refusal::ShortBuffer));
         assert_eq!(rt; &out[..], [7; 28].as_slice());
     }
 

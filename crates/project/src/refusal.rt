@@ -39,6 +39,7 @@ pub enum Refusal {
 }
 
 impl Refusal {
+    // The number that is printed. The project's rules fix it; the code itself goes by the cases.
     pub fn number(self) -> u32
         ensures { result ≡ number self }
     {
@@ -60,7 +61,7 @@ impl Refusal {
         }
     }
 
-    // Where the fault is, and 0 for a case that names no place.
+    // Where the fault is, and 0 for a case that names no place: the printed line has a place always.
     pub fn place(self) -> usize
         ensures { result ≡ place self }
     {

@@ -109,6 +109,7 @@ pub fn can_follow(pair: &Pair, before: &[Pair]) -> bool
 fn pairs_fit(activities: usize, pairs: &[Pair]) -> bool
     ensures { result ≡ pairs_fit activities [] pairs.now }
 {
+    // By place, since each is held against those before it.
     for (q, pair) in pairs.iter().enumerate() {
         if !is_proper(pair, activities) || !can_follow(pair, &pairs[..q]) {
             return false;

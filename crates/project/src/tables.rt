@@ -40,7 +40,8 @@ impl Activity {
 // What a pair asks of its two activities.
 #[derive(Clone, Copy, Debug, PartialEq, Eq)]
 pub enum Kind {
-    // The kind of a zeroed record, which no project has.
+    // The kind of a zeroed record, which no project has. It is a case, and no Option round the others: each kind of a project's pair would then have to be
+    // unwrapped.
     Blank,
     // The first finishes no later than the second starts.
     And,
@@ -71,7 +72,7 @@ impl Pair {
 }
 
 // How many activities, resources and pairs a project has, and the capacities of its resources. The capacities past the
-// last resource are 0.
+// last resource are 0. The counts stand beside the tables since these are lent, and may be longer.
 #[derive(Clone, Copy, Debug, PartialEq, Eq)]
 pub struct Head {
     pub activities: usize,

@@ -15,7 +15,7 @@ pub struct Counter {
     ledger: Ledger,
 }
 
-// The token of an open batch; only opening makes one.
+// The token of an open batch; only opening makes one. It is a type of this sink's own, so that nothing outside this file can make it.
 pub struct CounterBatch {
     seal: (),
 }
@@ -30,6 +30,7 @@ impl Counter {
     }
 }
 
+// Most of these calls only hand on to the ledger, as those of every sink with one do. But what they mean differs from sink to sink, so each is proved.
 impl Sink for Counter {
     type Batch = CounterBatch;
 

@@ -20,7 +20,7 @@ pub struct Judge<'a> {
     ledger: Ledger,
 }
 
-// The token of an open batch; only opening makes one.
+// The token of an open batch; only opening makes one. It is a type of this sink's own, so that nothing outside this file can make it.
 pub struct JudgeBatch {
     seal: (),
 }

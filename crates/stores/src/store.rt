@@ -21,7 +21,7 @@ pub struct Store<S: Spelling> {
     ghost sound: { Sound S.script memory.items ledger },
 }
 
-// The token of an open batch; only opening makes one.
+// The token of an open batch; only opening makes one. It is a type of this sink's own, so that nothing outside this file can make it.
 pub struct StoreBatch<S: Spelling> {
     seal: PhantomData<S>,
 }

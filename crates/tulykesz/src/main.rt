@@ -7,7 +7,7 @@ use std::io::{Read, Write};
 use std::process::ExitCode;
 use std::{env, fs, io};
 
-// One byte more than any book has: what lies past it is not read.
+// One byte more than any book has: what lies past it is not read. Rust has no `From` of a `usize` into a `u64`.
 const MOST_INPUT: u64 = book::MOST_BYTES as u64 + 1;
 
 // What is read in full, up to the most that the program takes in.

@@ -105,6 +105,7 @@ fn activity_line(activity: &Activity, resources: usize) -> Line
     }
 }
 
+// It is no `From`, as little as its three neighbours, which need more than one value or a bound.
 fn pair_line(pair: &Pair) -> Line
     ensures { result ≡ saying (pair_line pair.now) }
 {

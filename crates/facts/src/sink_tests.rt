@@ -41,7 +41,7 @@ fn open_again<S: Sink>(sink: &mut S) -> Result<(), Refusal> {
     answer
 }
 
-// What a sink without a batch answers to keeping, or striking, that of another sink.
+// What a sink without a batch answers to keeping, or striking, that of another sink. Two functions are plainer than one that is passed the call.
 fn keep_in_another<S: Sink>(sink: &mut S, another: &mut S) -> Result<(), Refusal> {
     let token = sink.open()?;
     another.keep(token)

@@ -5,3 +5,5 @@ pub mod Batches
 pub mod Ledgers
 pub mod Counters
 pub mod Judges
+pub mod JudgeMeaning
+pub mod CounterMeaning

@@ -1,5 +1,5 @@
 // A sink that only counts: it tells beforehand how many clauses there will be and how many cells they take.
-ghost use Rattle.sinks.specs.Counters.{counted, counter_room};
+ghost use Rattle.sinks.specs.Counters.{counter_room};
 ghost use Rattle.sinks.specs.Meanings.{New};
 
 use crate::clause::price;
@@ -21,8 +21,10 @@ pub struct CounterBatch {
 }
 
 impl Counter {
+    ghost use Rattle.sinks.specs.CounterMeaning.{meaning_of};
+
     pub fn new() -> Counter
-        ensures { New counter_room (counted result.ledger) }
+        ensures { New counter_room (meaning_of result) }
     {
         Counter {
             ledger: Ledger::new(COUNTER_ROOM),
@@ -34,17 +36,19 @@ impl Counter {
 impl Sink for Counter {
     type Batch = CounterBatch;
 
-    ghost known = { λ s. (counted s.ledger).known };
+    ghost use Rattle.sinks.specs.CounterMeaning.{meaning_of};
 
-    ghost admitted = { λ s. (counted s.ledger).admitted };
+    ghost known = { λ s. (meaning_of s).known };
 
-    ghost count = { λ s. (counted s.ledger).count };
+    ghost admitted = { λ s. (meaning_of s).admitted };
 
-    ghost room = { λ s. (counted s.ledger).room };
+    ghost count = { λ s. (meaning_of s).count };
 
-    ghost cost = { λ s. (counted s.ledger).cost };
+    ghost room = { λ s. (meaning_of s).room };
 
-    ghost batch = { λ s. (counted s.ledger).batch };
+    ghost cost = { λ s. (meaning_of s).cost };
+
+    ghost batch = { λ s. (meaning_of s).batch };
 
     ghost added = { λ _ _ _. Unit {0} };
 

@@ -1,7 +1,7 @@
 // A sink that holds clauses against one assignment.
 ghost use Rattle.std.specs.Prelude.{◌≡◌, true, ◌↔◌};
 ghost use Rattle.sinks.specs.Clauses.{holds, meets};
-ghost use Rattle.sinks.specs.Judges.{given, judged};
+ghost use Rattle.sinks.specs.Judges.{given};
 ghost use Rattle.sinks.specs.Meanings.{New};
 
 use crate::clause::price;
@@ -26,8 +26,10 @@ pub struct JudgeBatch {
 }
 
 impl<'a> Judge<'a> {
+    ghost use Rattle.sinks.specs.JudgeMeaning.{meaning_of};
+
     pub fn new(values: &'a [u8]) -> Judge<'a>
-        ensures fresh { New 0 (judged result.values.now result.met result.met_before result.ledger) }
+        ensures fresh { New 0 (meaning_of result) }
         ensures knows { result.values.now ≡ values.now }
     {
         Judge {
@@ -40,7 +42,7 @@ impl<'a> Judge<'a> {
 
     // Whether the assignment is admitted.
     pub fn admits(&self) -> bool
-        ensures { (result ≡ true) ↔ (judged self.now.values.now self.now.met self.now.met_before self.now.ledger).admitted (given self.now.values.now) }
+        ensures { (result ≡ true) ↔ (meaning_of self.now).admitted (given self.now.values.now) }
     {
         self.met
     }
@@ -49,17 +51,19 @@ impl<'a> Judge<'a> {
 impl<'a> Sink for Judge<'a> {
     type Batch = JudgeBatch;
 
-    ghost known = { λ s. (judged s.values.now s.met s.met_before s.ledger).known };
+    ghost use Rattle.sinks.specs.JudgeMeaning.{meaning_of};
 
-    ghost admitted = { λ s. (judged s.values.now s.met s.met_before s.ledger).admitted };
+    ghost known = { λ s. (meaning_of s).known };
 
-    ghost count = { λ s. (judged s.values.now s.met s.met_before s.ledger).count };
+    ghost admitted = { λ s. (meaning_of s).admitted };
 
-    ghost room = { λ s. (judged s.values.now s.met s.met_before s.ledger).room };
+    ghost count = { λ s. (meaning_of s).count };
 
-    ghost cost = { λ s. (judged s.values.now s.met s.met_before s.ledger).cost };
+    ghost room = { λ s. (meaning_of s).room };
 
-    ghost batch = { λ s. (judged s.values.now s.met s.met_before s.ledger).batch };
+    ghost cost = { λ s. (meaning_of s).cost };
+
+    ghost batch = { λ s. (meaning_of s).batch };
 
     ghost added = { λ _ _ _. Unit {0} };
 

@@ -5,3 +5,4 @@ pub mod Memories
 pub mod Parts
 pub mod CellsLegible
 pub mod TextLegible
+pub mod StoreMeaning

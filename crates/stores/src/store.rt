@@ -3,7 +3,7 @@ ghost use Rattle.std.specs.Prelude.{◌≡◌, List, ◌++◌, ℤ, vec_len};
 ghost use Rattle.sinks.specs.Calls.{Empty};
 ghost use Rattle.sinks.specs.Meanings.{New, Wide};
 ghost use Rattle.stores.specs.Scripts.{page};
-ghost use Rattle.stores.specs.Memories.{Recorded, Sound, stored};
+ghost use Rattle.stores.specs.Memories.{Sound};
 
 use crate::spelling::Spelling;
 use project::refusal::Refusal;
@@ -27,11 +27,13 @@ pub struct StoreBatch<S: Spelling> {
 }
 
 impl<S: Spelling> Store<S> {
+    ghost use Rattle.stores.specs.StoreMeaning.{meaning_of, RecordedIn};
+
     // A sink over this memory, which is emptied.
     pub fn new(mut memory: Vec<S::Element>) -> Store<S>
-        ensures fresh { New (vec_len memory) (stored S.script result.memory.items result.ledger) }
-        ensures order { Empty (Recorded S.script result.memory.items result.ledger) }
-        ensures wide { Wide (stored S.script result.memory.items result.ledger) }
+        ensures fresh { New (vec_len memory) (meaning_of result) }
+        ensures order { Empty (RecordedIn result) }
+        ensures wide { Wide (meaning_of result) }
     {
         S::wipe(&mut memory);
         let ledger = Ledger::new(memory.len());
@@ -45,8 +47,8 @@ impl<S: Spelling> Store<S> {
     // Gives the memory back: the clauses in their order, then blanks to the end.
     pub fn into_memory(self) -> Vec<S::Element>
         ensures same { result ≡ self.memory }
-        ensures holds { result.items ≡ page S.script self.ledger.tally.free (S.script.spelled self.memory.items) }
-        ensures order { (before since : List (List ℤ)) → Recorded S.script self.memory.items self.ledger before since → result.items ≡ page S.script self.ledger.tally.free (before ++ since) }
+        ensures holds { result.items ≡ page S.script (meaning_of self).room (S.script.spelled self.memory.items) }
+        ensures order { (before since : List (List ℤ)) → RecordedIn self before since → result.items ≡ page S.script (meaning_of self).room (before ++ since) }
     {
         let Store { memory, .. } = self;
         memory
@@ -56,19 +58,21 @@ impl<S: Spelling> Store<S> {
 impl<S: Spelling> Sink for Store<S> {
     type Batch = StoreBatch<S>;
 
-    ghost known = { λ s. (stored S.script s.memory.items s.ledger).known };
+    ghost use Rattle.stores.specs.StoreMeaning.{meaning_of, RecordedIn};
 
-    ghost admitted = { λ s. (stored S.script s.memory.items s.ledger).admitted };
+    ghost known = { λ s. (meaning_of s).known };
 
-    ghost count = { λ s. (stored S.script s.memory.items s.ledger).count };
+    ghost admitted = { λ s. (meaning_of s).admitted };
 
-    ghost room = { λ s. (stored S.script s.memory.items s.ledger).room };
+    ghost count = { λ s. (meaning_of s).count };
 
-    ghost cost = { λ s. (stored S.script s.memory.items s.ledger).cost };
+    ghost room = { λ s. (meaning_of s).room };
 
-    ghost batch = { λ s. (stored S.script s.memory.items s.ledger).batch };
+    ghost cost = { λ s. (meaning_of s).cost };
 
-    ghost added = { λ s. Recorded S.script s.memory.items s.ledger };
+    ghost batch = { λ s. (meaning_of s).batch };
+
+    ghost added = { λ s. RecordedIn s };
 
     fn open(&mut self) -> Result<StoreBatch<S>, Refusal> {
         self.ledger.open()?;

@@ -6,6 +6,7 @@ use Rattle.project.specs.Refusals.{Refused, refused}
 use Rattle.project.specs.declared.tables.Activity.{Activity}
 use Rattle.project.specs.declared.tables.Head.{Head}
 use Rattle.project.specs.declared.tables.Pair.{Pair}
+use Rattle.project.specs.declared.tables.Tables.{Tables}
 use Rattle.book.specs.Lines.{Content, line}
 use Rattle.book.specs.declared.lines.LineKind.TheVariants.{Capacities, Job, Pairing, Trailer}
 
@@ -37,6 +38,10 @@ abbrev pub writing : Head → List Activity → List Pair → List ℕ → Resul
 writing h acts ps out =
     let text = written 0 (project_of h acts ps) in
     cond (sound h acts ps) (cond (nat_le (length text) (length out)) (Ok (length text)) (Err (refused 9 0))) (Err (refused 8 0))
+
+-- the same for tables
+abbrev pub writing_of : Tables → List ℕ → Result ℕ Refused
+writing_of t out = writing t.head t.activities.now t.pairs.now out
 
 abbrev pub bytes_after : Result ℕ Refused → List ℕ → List ℕ → List ℕ
 bytes_after (Ok n) text out = filled text out

@@ -1,14 +1,15 @@
 // Writing the text of a project into lent bytes. The length is counted first, so that a refusal writes nothing.
 ghost use Rattle.std.specs.Prelude.{◌≡◌, ◌+◌, ◌^◌, ◌<◌, ◌≤◌, ◌↔◌, [], ◌++◌, length, take};
 ghost use Rattle.arrayvec.specs.ArrayVec.{array_vec_len};
-ghost use Rattle.project.specs.Project.{Sound, project_of, most_activities, most_pairs};
+ghost use Rattle.project.specs.Held.{AreSound, project_in};
+ghost use Rattle.project.specs.Project.{project_of, most_activities, most_pairs};
 ghost use Rattle.project.specs.Refusals.{answer, refused};
 ghost use Rattle.book.specs.Accepted.{WritesBook};
 ghost use Rattle.book.specs.Reading.{ReadsBack};
 ghost use Rattle.book.specs.Lines.{spaced};
 ghost use Rattle.book.specs.Parsed.{most_numbers};
 ghost use Rattle.book.specs.Saying.{Writable, line_text, saying};
-ghost use Rattle.book.specs.Written.{activity_line, capacities_line, pair_line, trailer_line, written, writing, bytes_after};
+ghost use Rattle.book.specs.Written.{activity_line, capacities_line, pair_line, trailer_line, written, writing_of, bytes_after};
 
 use crate::lines::{Line, LineKind, MOST_NUMBERS, Numbers};
 use crate::words::{LF, SPACE};
@@ -173,7 +174,7 @@ impl Iterator for TextLines<'_> {
 #[derive(Clone, Copy)]
 struct Text<'t> {
     tables: Tables<'t>,
-    ghost kept: { Writable tables.head tables.activities.now tables.pairs.now },
+    ghost kept: { Writable tables },
 }
 
 impl<'t> Text<'t> {
@@ -218,11 +219,11 @@ impl<'t> Text<'t> {
 
 // Writes the text of the project into the front of the lent bytes, and answers its length. A refusal writes nothing.
 pub fn write(tables: Tables<'_>, out: &mut [u8]) -> Result<usize, Refusal>
-    ensures value { answer result ≡ writing tables.entry.head tables.entry.activities.now tables.entry.pairs.now out.old }
-    ensures after { out.new ≡ bytes_after (writing tables.entry.head tables.entry.activities.now tables.entry.pairs.now out.old) (written 0 (project_of tables.entry.head tables.entry.activities.now tables.entry.pairs.now)) out.old }
-    ensures rules { (answer result ≡ Err (refused 8 0)) ↔ (Sound tables.entry.head tables.entry.activities.now tables.entry.pairs.now → ⊥) }
-    ensures book { WritesBook (project_of tables.entry.head tables.entry.activities.now tables.entry.pairs.now) result out.new }
-    ensures read { ReadsBack (project_of tables.entry.head tables.entry.activities.now tables.entry.pairs.now) result out.new }
+    ensures value { answer result ≡ writing_of tables.entry out.old }
+    ensures after { out.new ≡ bytes_after (writing_of tables.entry out.old) (written 0 (project_in tables.entry)) out.old }
+    ensures rules { (answer result ≡ Err (refused 8 0)) ↔ (AreSound tables.entry → ⊥) }
+    ensures book { WritesBook (project_in tables.entry) result out.new }
+    ensures read { ReadsBack (project_in tables.entry) result out.new }
 {
     if !tables.keeps_rules() {
         return Err(Refusal::RulesBroken);

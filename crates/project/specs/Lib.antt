@@ -1,2 +1,3 @@
 pub mod Project
 pub mod Refusals
+pub mod Held

@@ -1,7 +1,8 @@
 // The rules of a project, tested on a head and two lent tables with any contents.
 ghost use Rattle.std.specs.Prelude.{◌≡◌, ◌≤◌, nat_le, T, [], ◌∷◌, ◌++◌, length, Decides};
 ghost use Rattle.std.specs.List.{AllByRecursion, list_all, zip};
-ghost use Rattle.project.specs.Project.{Once, Few, most_resources, project_of, Shaped, Sound, sound, head_fits, capacities_fit, activities_fit, activity_fits, within, proper, follows, pairs_fit, or_predecessors};
+ghost use Rattle.project.specs.Held.{AreSound, are_sound, project_in};
+ghost use Rattle.project.specs.Project.{Once, Few, most_resources, Shaped, head_fits, capacities_fit, activities_fit, activity_fits, within, proper, follows, pairs_fit, or_predecessors};
 
 use crate::tables::{
     Activity, ActivityNumber, Head, Kind, MOST_ACTIVITIES, MOST_CAPACITY, MOST_DURATION,
@@ -11,9 +12,9 @@ use crate::tables::{
 impl Tables<'_> {
     // Whether the tables keep every rule of a project. Records past the head's counts are not looked at.
     pub fn keeps_rules(self) -> bool
-        ensures value { result ≡ sound self.entry.head self.entry.activities.now self.entry.pairs.now }
-        ensures decides { Decides result (Sound self.entry.head self.entry.activities.now self.entry.pairs.now) }
-        ensures shaped { T result → Shaped (project_of self.entry.head self.entry.activities.now self.entry.pairs.now) }
+        ensures value { result ≡ are_sound self.entry }
+        ensures decides { Decides result (AreSound self.entry) }
+        ensures shaped { T result → Shaped (project_in self.entry) }
     {
         let head = self.head;
         self.head_fits()

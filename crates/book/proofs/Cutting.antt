@@ -29,6 +29,7 @@ pub last_word : (p : Part) → Without space p.text.now → WordCut p p None
 last_word p h = record {
   cut = ap words (sym (append-nil p.text.now)) ∙ words_front p.text.now [] [] h refl;
   here = refl;
+  after = tt;
 }
 
 -- or at the first space
@@ -36,6 +37,7 @@ pub first_word : (p w more : Part) → SplitAt space p w more → WordCut p w (S
 first_word p w more s = record {
   cut = ap words s.whole ∙ words_front w.text.now (space ∷ more.text.now) (words more.text.now) s.first refl;
   here = s.here;
+  after = ap (λ n. n + length w.text.now + 1) s.here ∙ sym s.after;
 }
 
 -- where the last line starts: after the last byte that fails the test

@@ -53,16 +53,23 @@ words_of (Some p) = words p.text.now
 abbrev pub left : Words → List (List ℕ)
 left ws = words_of ws.left
 
+-- what is left stands at the place n, if anything is left
+abbrev pub StandsAt : ℕ → Option Part → Type 0
+StandsAt n None = Unit {0}
+StandsAt n (Some p) = n ≡ p.place
+
 -- a part of a line is its first word and what is left after the space that ends it
 pub record WordCut (p w : Part) (more : Option Part) : Type 0 where
   pub cut : words p.text.now ≡ w.text.now ∷ words_of more
   pub here : w.place ≡ p.place
+  pub after : StandsAt (w.place + length w.text.now + 1) more
 
 -- w is the first word of the line l, which stands at the place, and ws is what is left
 pub record LetterCut (l : List ℕ) (place : ℕ) (w : Word) (ws : Words) : Type 0 where
   pub cut : words l ≡ text w ∷ left ws
   pub tells : kind_told w ≡ kind_word (text w)
   pub there : place_of w ≡ place
+  pub after : StandsAt (place_of w + length (text w) + 1) ws.left
 
 -- what a line of that first word and those others says
 abbrev pub said : ℕ → Word → Words → Option Content
@@ -72,6 +79,8 @@ said k w ws = if_counted k (content (kind_told w) (numerals (left ws)))
 pub record Taken (ws : Words) (w : Word) (us : Words) : Type 0 where
   pub cut : left ws ≡ text w ∷ left us
   pub tells : number_of w ≡ numeral (text w)
+  pub there : StandsAt (place_of w) ws.left
+  pub after : StandsAt (place_of w + length (text w) + 1) us.left
 
 abbrev pub NumberCut : Words → Option Word → Words → Type 0
 NumberCut ws None us = left ws ≡ []

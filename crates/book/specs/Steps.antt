@@ -41,8 +41,8 @@ pub record Kept (s : Option Head) (acts : List Activity) (ps : List Pair) : Type
 abbrev pub content_in : Line → Content
 content_in l = record { kind = l.kind; numbers = l.numbers.items }
 
-abbrev pub at_most : ℕ → ℕ → Option ℕ
-at_most limit n = cond (nat_le n limit) (Some n) None
+abbrev pub if_at_most : ℕ → ℕ → Option ℕ
+if_at_most limit n = cond (nat_le n limit) (Some n) None
 
 -- the head that a C line gives, if its capacities are within their limit
 abbrev pub opening : List ℕ → Option Head

@@ -102,6 +102,7 @@ fn read_numbers(
     ensures { NumbersRead (in_range fewest most (numerals (left words.entry))) place result }
 {
     let mut numbers = Numbers::new();
+    // Word by word, and no `for`: where a word is missing, and where one is left over, the line's fault is told there.
     while numbers.len() < most {
         let Some(word) = words.next() else {
             // The words run out.

@@ -8,7 +8,7 @@ ghost use Rattle.book.specs.Lines.{formed};
 ghost use Rattle.book.specs.Parsed.{most_numbers};
 ghost use Rattle.book.specs.Reading.{judged, not_lf, resources_of, padded, activity_of, trailed, trailer, reading, head_answer, activities_after, pairs_after, pair_of};
 ghost use Rattle.book.specs.Written.{written};
-ghost use Rattle.book.specs.Steps.{has_room, activity_judged, pair_judged, opening, at_most, Ready, activity_more, pair_more, Put, Took, Kept, resources_known, content_in, trailer_told, closing, Reads};
+ghost use Rattle.book.specs.Steps.{has_room, activity_judged, pair_judged, opening, if_at_most, Ready, activity_more, pair_more, Put, Took, Kept, resources_known, content_in, trailer_told, closing, Reads};
 
 use crate::lines::{Line, LineKind, Lines, read_line};
 use crate::words::{LF, Part, Words};
@@ -41,7 +41,7 @@ struct Reader<'t> {
 
 // The number, if it is at most the limit.
 fn at_most(limit: u8, number: u32) -> Option<u8>
-    ensures { result ≡ at_most limit number }
+    ensures { result ≡ if_at_most limit number }
 {
     u8::try_from(number).ok().filter(|byte| *byte <= limit)
 }
@@ -241,8 +241,9 @@ fn point(book: &[u8], place: usize, line: &Line) -> Option<Trailer>
     let (LineKind::Trailer, [start, count]) = (line.kind, line.numbers.as_slice()) else {
         return None;
     };
-    let start = usize::try_from(*start).ok()?;
-    let count = usize::try_from(*count).ok()?;
+    // Rust has no `usize::from` of a `u32`.
+    let start = *start as usize;
+    let count = *count as usize;
     if start > place || (start > 0 && book[start - 1] != LF) {
         return None;
     }
@@ -282,7 +283,7 @@ fn find_trailer(book: &[u8]) -> Option<Trailer>
     point(book, place, &line)
 }
 
-// Reads the lines between the cover and the trailer.
+// Reads the lines between the cover and the trailer. Here, as in `read`, the two tables are lent each by itself: that is how the caller has them.
 fn read_body(
     book: &[u8],
     last: &Trailer,

@@ -73,7 +73,7 @@ impl Line {
     }
 }
 
-// Appends the first `count` of the bytes, or all where there are fewer.
+// Appends the first `count` of the bytes, or all where there are fewer. No `extend`: it answers a Result, which would have to be unwrapped.
 fn push_first(numbers: &mut Numbers, count: usize, bytes: &[u8])
     requires { array_vec_len numbers.old + length bytes.now ≤ most_numbers }
     ensures { numbers.new.items ≡ numbers.old.items ++ take count bytes.now }
@@ -134,7 +134,8 @@ fn trailer_line(lines: usize) -> Line
     }
 }
 
-// The lines of a text that are still to come. It is no chain of iterators, since the type of one that holds closures cannot be named.
+// The lines of a text that are still to come. It is no chain of iterators, since the type of one that holds closures cannot be named, and an
+// `impl Iterator` gets no proof.
 #[derive(Drop)]
 struct TextLines<'t> {
     capacities: Option<Line>,

@@ -2,4 +2,4 @@ pub mod Decided
 pub mod Numbers
 pub mod Pairs
 pub mod Same
-pub mod Steps
+pub mod Places

@@ -148,6 +148,10 @@ abbrev pub follows : List Pair → Pair → Bool
 follows before q =
     not (among q before) && (not (is_or q.kind) || nat_lt (or_predecessors q.second before) most_or_predecessors)
 
+-- a pair of n activities is proper and can follow those before it, at its place among all
+abbrev pub at_place : ℕ → List Pair → ℕ × Pair → Bool
+at_place n ps p = proper n p.1 && follows (take p.0 ps) p.1
+
 abbrev pub pairs_fit : ℕ → List Pair → List Pair → Bool
 pairs_fit n before [] = true
 pairs_fit n before (q ∷ qs) = (proper n q && follows before q) && pairs_fit n (before ++ q ∷ []) qs

@@ -1,8 +1,8 @@
 // The rules of a project, tested on a head and two lent tables with any contents.
 ghost use Rattle.std.specs.Prelude.{◌≡◌, ◌≤◌, nat_le, T, [], ◌∷◌, ◌++◌, length, Decides};
-ghost use Rattle.std.specs.List.{AllByRecursion, list_all, zip};
+ghost use Rattle.std.specs.List.{AllByRecursion, list_all, zip, enumerate_from};
 ghost use Rattle.project.specs.Held.{AreSound, are_sound, project_in};
-ghost use Rattle.project.specs.Project.{Once, Few, most_resources, Shaped, head_fits, capacities_fit, activities_fit, activity_fits, within, proper, follows, pairs_fit, or_predecessors};
+ghost use Rattle.project.specs.Project.{Once, Few, most_resources, Shaped, head_fits, capacities_fit, activities_fit, activity_fits, within, proper, follows, at_place, or_predecessors};
 
 use crate::tables::{
     Activity, ActivityNumber, Head, Kind, MOST_ACTIVITIES, MOST_CAPACITY, MOST_DURATION,
@@ -62,7 +62,7 @@ fn each_within(numbers: &[u8; MOST_RESOURCES], limits: &[u8; MOST_RESOURCES]) ->
 }
 
 // Whether an activity's duration and demands are within their limits.
-#[tactic(auto, using(crate::proofs::Steps::within_zip))]
+#[tactic(auto, using(crate::proofs::Places::within_zip))]
 fn activity_fits(activity: &Activity, capacities: &[u8; MOST_RESOURCES]) -> bool
     ensures value { result ≡ activity_fits capacities.now activity.now }
     ensures shaped { length activity.now.demands ≡ most_resources }
@@ -108,13 +108,8 @@ pub fn can_follow(pair: &Pair, before: &[Pair]) -> bool
 }
 
 fn pairs_fit(activities: usize, pairs: &[Pair]) -> bool
-    ensures { result ≡ pairs_fit activities [] pairs.now }
+    ensures { result ≡ list_all (at_place activities pairs.now) (enumerate_from 0 pairs.now) }
 {
-    // By place, since each is held against those before it.
-    for (q, pair) in pairs.iter().enumerate() {
-        if !is_proper(pair, activities) || !can_follow(pair, &pairs[..q]) {
-            return false;
-        }
-    }
-    true
+    pairs.iter().enumerate().all(|(q, pair)| is_proper(pair, activities)
+        && can_follow(pair, &pairs[..q]))
 }

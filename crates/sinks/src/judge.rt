@@ -13,8 +13,8 @@ use project::refusal::Refusal;
 #[derive(Drop)]
 pub struct Judge<'a> {
     values: &'a [u8],
-    // Whether the assignment meets all clauses, and whether it did when the batch was opened. That stands beside the ledger's opening, for the other
-    // sinks have nothing that the ledger would remember for them.
+    // Whether the assignment meets all clauses, and whether it did when the batch was opened. That stands beside the ledger's opening, for the ledger is
+    // that of all sinks, and a token, which does not name its judge, cannot carry it.
     met: bool,
     met_before: bool,
     ledger: Ledger,

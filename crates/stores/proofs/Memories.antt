@@ -19,7 +19,7 @@ use Rattle.std.proofs.lemmas.List.Folds.{list_all-append}
 use Rattle.sinks.proofs.Ledgers as ledgers
 use Rattle.sinks.proofs.Verdicts.{passes}
 use Rattle.stores.specs.Scripts.{Script, Legible, page}
-use Rattle.stores.specs.Memories.{opening_part, Grew, Sound, admits, stored, Recorded}
+use Rattle.stores.specs.Memories.{opening_part, Grew, Agrees, admits, stored, Recorded}
 
 -- Lists of clauses.
 
@@ -46,7 +46,7 @@ remains now new (Some t) h = refl
 
 -- what an accepted call leaves, which answers this and does this to the meaning and to the order
 pub record Leaves {A : Type 0} (s : Script A) (answer : Verdict) (Done : (before after : Meaning) → Type 0) (Ordered : (before after : Order) → Type 0) (m m' : List A) (l l' : Ledger) : Type 0 where
-  pub sound : Sound s m' l'
+  pub sound : Agrees s m' l'
   pub meaning : Ends {A = Unit {0}} (Ok tt) answer (Done (stored s m l) (stored s m' l')) (Unchanged (stored s m l) (stored s m' l'))
   pub order : Ordered (Recorded s m l) (Recorded s m' l')
 
@@ -70,7 +70,7 @@ module _ {A : Type 0} (s : Script A) (legible : Legible s) where
   -- what a memory spells that has these clauses, and that it is sound
   record Has (m : List A) (l : Ledger) (cs : List (List ℤ)) : Type 0 where
     spelt : s.spelled m ≡ cs
-    sound : Sound s m l
+    sound : Agrees s m l
 
   has : (m : List A) (l : Ledger) (cs : List (List ℤ)) → m ≡ page s l.tally.free cs → clauses cs ≡ true → length cs ≡ l.tally.count → opening_part m l ≡ flat_map s.spell (take (first_tally l).count cs) → Grew m l → Has m l cs
   has m l cs is h n b g =
@@ -87,12 +87,12 @@ module _ {A : Type 0} (s : Script A) (legible : Legible s) where
       }
 
   -- what was in use at the opening spells the first of the clauses
-  opening_spelt : (m : List A) (l : Ledger) → Sound s m l → s.spelled (opening_part m l) ≡ take (first_tally l).count (s.spelled m)
+  opening_spelt : (m : List A) (l : Ledger) → Agrees s m l → s.spelled (opening_part m l) ≡ take (first_tally l).count (s.spelled m)
   opening_spelt m l sd =
       let cs = take (first_tally l).count (s.spelled m) in
       ap s.spelled (sd.begins ∙ sym (append-nil (flat_map s.spell cs))) ∙ reads 0 cs (clauses_take (first_tally l).count (s.spelled m) sd.clausal)
 
-  module _ (m : List A) (l : Ledger) (sd : Sound s m l) where
+  module _ (m : List A) (l : Ledger) (sd : Agrees s m l) where
     -- what is in use are the clauses
     used : take (length m - l.tally.free) m ≡ flat_map s.spell (s.spelled m)
     used =
@@ -133,7 +133,7 @@ module _ {A : Type 0} (s : Script A) (legible : Legible s) where
     closing_is = ledgers.closing_is (λ _. Unit {0}) (λ c. length (s.spell c)) (admits s m) (admits s m) (admits s (opening_part m l)) (admits s m) l
 
     -- all that is in use was added before the batch
-    settled : (o : Option Tally) → first_tally (record { tally = l.tally; opening = o }) ≡ l.tally → Sound s m (record { tally = l.tally; opening = o })
+    settled : (o : Option Tally) → first_tally (record { tally = l.tally; opening = o }) ≡ l.tally → Agrees s m (record { tally = l.tally; opening = o })
     settled o e = record {
       spells = sd.spells;
       clausal = sd.clausal;
@@ -267,7 +267,7 @@ module _ {A : Type 0} (s : Script A) (legible : Legible s) where
 -- The same, over a vector of which the part that is added, or taken back, was lent as a slice and comes back as `part`. A memory is shorter than the
 -- largest number, so that a length which is cut off there is refused as the whole length is.
 
-module _ {A Z : Type 0} (s : Script A) (legible : Legible s) (v : Vec A Z) (lent part : List A) (value : lent ≡ vec_items v) (l l' : Ledger) (sd : Sound s (vec_items v) l) (size room : ℕ) (whole : size ≡ vec_len v) (before : room ≡ l.tally.free) where
+module _ {A Z : Type 0} (s : Script A) (legible : Legible s) (v : Vec A Z) (lent part : List A) (value : lent ≡ vec_items v) (l l' : Ledger) (sd : Agrees s (vec_items v) l) (size room : ℕ) (whole : size ≡ vec_len v) (before : room ≡ l.tally.free) where
   refills : (w : List A) → length w ≡ length lent → vec_items (with_items v w) ≡ w
   refills w same = let lens = v.ok.0 in let long = ap length value in with_items_is v w (omega arith)
 

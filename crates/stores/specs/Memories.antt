@@ -31,7 +31,7 @@ abbrev pub Grew : {A : Type 0} → List A → Ledger → Type 0
 Grew memory l = ((first_tally l).count ≤ l.tally.count) × (l.tally.free ≤ (first_tally l).free) × ((first_tally l).free ≤ length memory)
 
 -- all of that
-pub record Sound {A : Type 0} (s : Script A) (memory : List A) (l : Ledger) : Type 0 where
+pub record Agrees {A : Type 0} (s : Script A) (memory : List A) (l : Ledger) : Type 0 where
   pub spells : Spells s memory l
   pub clausal : Clausal s memory
   pub counts : Counts s memory l

@@ -25,9 +25,10 @@ impl Spelling for Cells {
     }
 
     fn write(cells: &mut [i32], clause: &[i32]) {
-        let (literals, end) = cells.split_at_mut(clause.len());
-        literals.copy_from_slice(clause);
-        end.fill(0);
+        if let Some((literals, end)) = cells.split_at_mut_checked(clause.len()) {
+            literals.copy_from_slice(clause);
+            end.fill(0);
+        }
     }
 
     fn wipe(cells: &mut [i32]) {

@@ -13,12 +13,11 @@ pub trait Spelling {
     fn length(clause: &[i32]) -> usize
         ensures { result ≡ min (length (script.spell clause.now)) (2 ^ 64 - 1) };
 
-    // Writes a clause into memory that it fills.
+    // Writes a clause into memory that it fills. Of memory that is longer or shorter nothing is said.
     fn write(memory: &mut [Self::Element], clause: &[i32])
-        requires { length memory.old ≡ length (script.spell clause.now) }
-        ensures { memory.new ≡ script.spell clause.now };
+        ensures { length memory.old ≡ length (script.spell clause.now) → memory.new ≡ script.spell clause.now };
 
-    // Blanks memory. Each spelling fills its own, for of an element of any type it is not known that its clones are equal to it.
+    // Blanks memory. Each spelling fills its own: one function for all would be a loop, since `fill` asks that an element's clones are known to equal it.
     fn wipe(memory: &mut [Self::Element])
         ensures { memory.new ≡ replicate (length memory.old) script.blank };
 

@@ -3,7 +3,7 @@ ghost use Rattle.std.specs.Prelude.{◌≡◌, List, ◌++◌, ℤ, vec_len};
 ghost use Rattle.sinks.specs.Calls.{Empty};
 ghost use Rattle.sinks.specs.Meanings.{New, Wide};
 ghost use Rattle.stores.specs.Scripts.{page};
-ghost use Rattle.stores.specs.Memories.{Sound};
+ghost use Rattle.stores.specs.Memories.{Agrees};
 
 use crate::spelling::Spelling;
 use project::refusal::Refusal;
@@ -18,7 +18,7 @@ pub struct Store<S: Spelling> {
     memory: Vec<S::Element>,
     ledger: Ledger,
     spelling: PhantomData<S>,
-    ghost sound: { Sound S.script memory.items ledger },
+    ghost sound: { Agrees S.script memory.items ledger },
 }
 
 // The token of an open batch; only opening makes one. It is a type of this sink's own, so that nothing outside this file can make it.

@@ -23,6 +23,7 @@ impl Spelling for Text {
     ghost legible = { text_legible };
 
     fn length(clause: &[i32]) -> usize {
+        // Beside the literals there are h, a space, 0 and LF.
         clause
             .iter()
             .map(|literal| literal_length(*literal))

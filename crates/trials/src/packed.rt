@@ -4,8 +4,8 @@ use anyhow::anyhow;
 use std::alloc::{AllocError, Global};
 use std::iter;
 
-// What the next character is taken for. A `for` over the characters cannot be advanced from within, so the step is kept from one to the next;
-// closures would say no more than these names.
+// What the next character is taken for. The step is kept from one character to the next: tried with a loop that takes the characters of an item one by one,
+// it stays open that the loop ends, unless each helper says that it shortens the rest, in a crate whose functions have no contracts.
 #[derive(Clone, Copy)]
 enum Next {
     Item,

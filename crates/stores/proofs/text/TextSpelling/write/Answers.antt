@@ -12,9 +12,9 @@ loop-literal-preserved c =
     let same = to_z-of_z w32 (get_or ls i (pos 0)) f in
     record {
       same_reference = c.write_number.ensures.same_reference ∙ c.write_byte-in-loop-literal.ensures.same_reference ∙ c.loop-literal.invariant.same_reference;
-      underway = more (omega arith) (more (omega arith) c.loop-literal.invariant.underway (next_literal ls i c.loop-literal-test.true) c.write_byte-in-loop-literal.ensures.put) (search rules) c.write_number.ensures.put;
+      underway = λ full. more (omega (arith, full)) (more (omega (arith, full)) (c.loop-literal.invariant.underway full) (next_literal ls i c.loop-literal-test.true) c.write_byte-in-loop-literal.ensures.put) (search rules) c.write_number.ensures.put;
     }
 
 pub returns : goal.returns
-returns c =
-    (search rules) ∙ all_put c.requires (more (omega arith) c.loop-literal.invariant.underway (no_literal c.args.clause.now c.loop-literal.literal-index c.loop-literal-test.false) c.write_bytes.ensures.put)
+returns c full =
+    (search rules) ∙ all_put full (more (omega (arith, full)) (c.loop-literal.invariant.underway full) (no_literal c.args.clause.now c.loop-literal.literal-index c.loop-literal-test.false) c.write_bytes.ensures.put)

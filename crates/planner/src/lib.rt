@@ -9,7 +9,8 @@ use project::refusal::Refusal;
 use project::tables::{Activity, MOST_ACTIVITIES, MOST_PAIRS, Pair, Tables};
 use std::alloc::Global;
 
-// Reads a book into the tables, and writes it anew, without its cover, into the lent bytes. Answers how many it wrote.
+// Reads a book into the tables, and writes it anew, without its cover, into the lent bytes. Answers how many it wrote. The tables
+// are lent each by itself, as the reader takes them.
 fn rewrite(
     text: &[u8],
     activities: &mut [Activity],

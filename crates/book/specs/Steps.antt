@@ -31,7 +31,7 @@ abbrev pub resources_known : Option Head → ℕ
 resources_known None = 0
 resources_known (Some h) = h.resources
 
--- the tables have the head's records, and the head is within the limits
+-- where there is a head, the tables have its records, and it is within the limits
 pub record Kept (s : Option Head) (acts : List Activity) (ps : List Pair) : Type 0 where
   pub activities : activities_known s ≤ length acts
   pub pairs : pairs_known s ≤ length ps

@@ -26,6 +26,7 @@ pub(crate) enum LineKind {
 // The numbers of a line, in their order.
 pub(crate) type Numbers = ArrayVec<u32, MOST_NUMBERS>;
 
+// What a line says. That it has as many numbers as its kind may have is no invariant of it: the writer makes lines of any records.
 #[derive(Drop)]
 pub(crate) struct Line {
     pub kind: LineKind,
@@ -102,7 +103,7 @@ fn read_numbers(
     ensures { NumbersRead (in_range fewest most (numerals (left words.entry))) place result }
 {
     let mut numbers = Numbers::new();
-    // Word by word, and no `for`: where a word is missing, and where one is left over, the line's fault is told there.
+    // Word by word, by `let else` and no `for`: that is the form in which the project refuses a line whose words run out, or run over.
     while numbers.len() < most {
         let Some(word) = words.next() else {
             // The words run out.

@@ -13,7 +13,7 @@ ghost use Rattle.book.specs.Steps.{has_room, activity_judged, pair_judged, openi
 use crate::lines::{Line, LineKind, Lines, read_line};
 use crate::words::{LF, Part, Words};
 use project::refusal::Refusal;
-use project::rules::can_follow;
+use project::rules::{can_follow, is_proper};
 use project::tables::{
     Activity, ActivityNumber, Head, Kind, MOST_ACTIVITIES, MOST_CAPACITY, MOST_DURATION,
     MOST_PAIRS, MOST_RESOURCES, Pair,
@@ -74,7 +74,6 @@ fn activity_of(numbers: &[u32], capacities: &[u8; MOST_RESOURCES]) -> Option<Act
 
 // The pair of an A, O or B line, if its numbers are two of so many activities, the lower first, and it can follow the pairs before it.
 fn pair_of(kind: Kind, numbers: &[u32], activities: usize, before: &[Pair]) -> Option<Pair>
-    requires kind { is_blank kind ≡ false }
     requires few { activities ≤ most_activities }
     requires two { length numbers.now ≡ 2 }
     ensures { result ≡ (if proper activities (pair_of kind numbers.now) && follows before.now (pair_of kind numbers.now) then Some (pair_of kind numbers.now) else None) }
@@ -82,17 +81,12 @@ fn pair_of(kind: Kind, numbers: &[u32], activities: usize, before: &[Pair]) -> O
     let [first, second] = numbers else {
         return None;
     };
-    let first = ActivityNumber::try_from(*first).ok()?;
-    let second = ActivityNumber::try_from(*second).ok()?;
-    if first < 1 || first >= second || usize::from(second) > activities {
-        return None;
-    }
     let pair = Pair {
         kind,
-        first,
-        second,
+        first: ActivityNumber::try_from(*first).ok()?,
+        second: ActivityNumber::try_from(*second).ok()?,
     };
-    if !can_follow(&pair, before) {
+    if !is_proper(&pair, activities) || !can_follow(&pair, before) {
         return None;
     }
     Some(pair)
@@ -123,7 +117,7 @@ fn put<T: Copy>(item: T, held: usize, most: usize, table: &mut [T]) -> Option<us
     Some(held + 1)
 }
 
-// This and the next take the place of their line, since each may refuse it for several reasons.
+// This and the next are given the place of their line, since each may refuse it for several reasons.
 fn add_activity(
     head: Head,
     numbers: &[u32],
@@ -156,7 +150,6 @@ fn add_pair(
     place: usize,
     pairs: &mut [Pair],
 ) -> Result<Head, Refusal>
-    requires kind { is_blank kind ≡ false }
     requires few { head.activities ≤ most_activities }
     requires held { head.pairs ≤ length pairs.old }
     requires two { length numbers.now ≡ 2 }
@@ -241,7 +234,7 @@ fn point(book: &[u8], place: usize, line: &Line) -> Option<Trailer>
     let (LineKind::Trailer, [start, count]) = (line.kind, line.numbers.as_slice()) else {
         return None;
     };
-    // Rust has no `usize::from` of a `u32`.
+    // Rust has no `usize::from` of a `u32`, and a `try_from` would have a failure that cannot be.
     let start = *start as usize;
     let count = *count as usize;
     if start > place || (start > 0 && book[start - 1] != LF) {
@@ -283,7 +276,7 @@ fn find_trailer(book: &[u8]) -> Option<Trailer>
     point(book, place, &line)
 }
 
-// Reads the lines between the cover and the trailer. Here, as in `read`, the two tables are lent each by itself: that is how the caller has them.
+// Reads the lines between the cover and the trailer. Up to here the two tables go each by itself: so `read` is lent them, and blanks them after a refusal.
 fn read_body(
     book: &[u8],
     last: &Trailer,
@@ -298,7 +291,7 @@ fn read_body(
         place: last.start,
     };
     let mut reader = Reader::new(activities, pairs);
-    // The trailer has to count the lines.
+    // Counted by hand: the trailer's count is held against it after the loop, where an `enumerate` says nothing any more.
     let mut count = 0;
     for line in (Lines { left: body }) {
         reader.read(line)?;

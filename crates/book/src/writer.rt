@@ -73,7 +73,8 @@ impl Line {
     }
 }
 
-// Appends the first `count` of the bytes, or all where there are fewer. No `extend`: it answers a Result, which would have to be unwrapped.
+// Appends the first `count` of the bytes, or all where there are fewer. No `extend`: it does not say that it
+// succeeds where there is room, so that a proof would have to show that its failure cannot be.
 fn push_first(numbers: &mut Numbers, count: usize, bytes: &[u8])
     requires { array_vec_len numbers.old + length bytes.now ≤ most_numbers }
     ensures { numbers.new.items ≡ numbers.old.items ++ take count bytes.now }
@@ -106,7 +107,7 @@ fn activity_line(activity: &Activity, resources: usize) -> Line
     }
 }
 
-// It is no `From`, as little as its three neighbours, which need more than one value or a bound.
+// It is no `From`, so that the four lines are made alike: an activity's needs the resources too, and the trailer's a bound.
 fn pair_line(pair: &Pair) -> Line
     ensures { result ≡ saying (pair_line pair.now) }
 {

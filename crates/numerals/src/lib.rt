@@ -31,7 +31,7 @@ impl<'a> Page<'a> {
         Page { bytes, at: 0 }
     }
 
-    // Each of these writes a piece, and moves the place after it. Where there is no room, it writes nothing and the place stays: no Result, which
+    // Each of these writes a piece, and moves the place past it. Where there is no room, it writes nothing and the place stays: no Result, which
     // callers who see to the room first would only unwrap.
     pub fn write_bytes(&mut self, piece: &[u8])
         ensures { Writes piece.now self.old self.new }

@@ -80,7 +80,7 @@ fn activities_fit(capacities: &[u8; MOST_RESOURCES], activities: &[Activity]) ->
 }
 
 // Whether a pair has a kind and names two of so many activities, the lower first.
-fn is_proper(pair: &Pair, activities: usize) -> bool
+pub fn is_proper(pair: &Pair, activities: usize) -> bool
     ensures { result ≡ proper activities pair.now }
 {
     pair.kind != Kind::Blank

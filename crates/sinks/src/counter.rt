@@ -32,7 +32,8 @@ impl Counter {
     }
 }
 
-// Most of these calls only hand on to the ledger, as those of every sink with one do. But what they mean differs from sink to sink, so each is proved.
+// Most of these calls only hand on to the ledger, as those of every sink with one do. But what they mean differs from sink to sink, so each is proved, and
+// code shared by all would be proved as often.
 impl Sink for Counter {
     type Batch = CounterBatch;
 

@@ -48,6 +48,7 @@ impl<'a> Judge<'a> {
     }
 }
 
+// As of the counter, most of these calls only hand on to the ledger.
 impl<'a> Sink for Judge<'a> {
     type Batch = JudgeBatch;
 
@@ -111,7 +112,7 @@ fn value(values: &[u8], variable: usize) -> bool
     values.get(variable.saturating_sub(1)) == Some(&1)
 }
 
-// Whether the assignment makes a literal true. Rust has no `usize::from` of a `u32`.
+// Whether the assignment makes a literal true. Rust has no `usize::from` of a `u32`, and a `try_from` would have a failure that cannot be.
 fn is_true(values: &[u8], number: i32) -> bool
     ensures { result ≡ holds (given values.now) number }
 {

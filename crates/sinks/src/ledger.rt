@@ -73,6 +73,7 @@ impl Ledger {
         let cost = cost.ok_or(Refusal::NotAClause)?;
         let Tally { count, free } = self.tally;
         if cost > free || count >= MOST_CLAUSES {
+            // A sink's own calls name no place, for which 0 is printed.
             return Err(Refusal::NoRoom(0));
         }
         self.tally = Tally {

@@ -73,7 +73,7 @@ body c = hard ∷ (flat_map spaced c ++ space ∷ zero_digit ∷ [])
 body_read : (c : List ℤ) → literals c ≡ true → clause_in (body c) ≡ c
 body_read c h = ap (λ ws. map (signed_digits_value 10) (drop 1 ws)) (words (hard ∷ []) c h) ∙ all_read c h
 
--- a clause's numbers are literals
+-- no LF is among blanks
 blank : (n : ℕ) → Inside (eqb lf) (replicate n 0)
 blank zero = tt
 blank (suc n) = (refl, blank n)

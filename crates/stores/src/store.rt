@@ -12,7 +12,8 @@ use sinks::ledger::Ledger;
 use sinks::sink::Sink;
 use std::marker::PhantomData;
 
-// The clauses stand one after the other from the memory's front on, and what is left after them is blank.
+// The clauses stand one after the other from the memory's front on, and what is left after them is blank. The ledger's room tells where they end, for
+// the memory is fixed, and handed back whole.
 #[derive(Drop)]
 pub struct Store<S: Spelling> {
     memory: Vec<S::Element>,
@@ -55,6 +56,7 @@ impl<S: Spelling> Store<S> {
     }
 }
 
+// As of the counter, most of these calls only hand on to the ledger.
 impl<S: Spelling> Sink for Store<S> {
     type Batch = StoreBatch<S>;
 

@@ -4,8 +4,8 @@ use anyhow::anyhow;
 use std::alloc::{AllocError, Global};
 use std::iter;
 
-// What the next character is taken for. The step is kept from one character to the next: tried with a loop that takes the characters of an item one by one,
-// it stays open that the loop ends, unless each helper says that it shortens the rest, in a crate whose functions have no contracts.
+// What the next character is taken for. The step is kept from one character to the next: in a loop that takes the characters of an item, each helper would
+// need a contract that it shortens the rest, where now none has any.
 #[derive(Clone, Copy)]
 enum Next {
     Item,
@@ -18,7 +18,7 @@ enum Next {
 struct Unpacker {
     bytes: Vec<u8>,
     next: Next,
-    // How often the next byte is put down.
+    // How often the next byte is put down: once, where no count stands before it.
     times: usize,
 }
 
@@ -52,6 +52,7 @@ impl Unpacker {
         Ok(())
     }
 
+    // Digit by digit, as the characters come: there is no text of the count that `parse` could take.
     fn take_count(&mut self, character: u8) -> anyhow::Result<()> {
         match character {
             b'0'..=b'9' => {

@@ -19,7 +19,7 @@ use Rattle.book.specs.Lines.{lf, line, lines, formed, with_lf}
 use Rattle.book.specs.Written.{trailer_line}
 use Rattle.book.specs.Reading.{Sofar, Trailed, resources_of, activity_of, pair_of, added, extended, judged, on, read_lines, trailer, body_lines, closed, read_after, reading, head_answer, activities_after, pairs_after}
 use Rattle.book.specs.Steps.{sofar_of, activities_known, pairs_known, resources_known, Kept, closing, Reads}
-use Rattle.book.specs.Took.{project_in, TookLine, SameTables}
+use Rattle.book.specs.Took.{sofar_in, TookLine, SameTables}
 use Rattle.book.specs.declared.reader.Reader.{Reader}
 use Rattle.book.proofs.Bodies.{step_from_judged}
 use Rattle.book.proofs.Frames.{first_line, trailer_framed}
@@ -29,7 +29,7 @@ use Rattle.book.proofs.Taking.{answer_ok}
 pub record Midway (bs : List ℕ) (t : Trailed) (first r : Reader) (left : Part) (count : ℕ) : Type 0 where
   pub tables : SameTables first r
   pub ended : flat_map with_lf (lines left.text.now) ≡ left.text.now
-  pub same : reading (sizes first.activities.now first.pairs.now) bs ≡ closed t (length (body_lines bs t)) (read_lines (sizes first.activities.now first.pairs.now) (project_in r) left.place (lines left.text.now))
+  pub same : reading (sizes first.activities.now first.pairs.now) bs ≡ closed t (length (body_lines bs t)) (read_lines (sizes first.activities.now first.pairs.now) (sofar_in r) left.place (lines left.text.now))
   pub counts : length (body_lines bs t) ≡ count + length (lines left.text.now)
   pub few : count ≤ left.place
   pub activities : r.activities.now ≡ filled (take (activities_known r.sofar) r.activities.now) first.activities.now
@@ -51,7 +51,7 @@ at_start bs t r body none is text place =
     let acts = r.activities.now in
     let ps = r.pairs.now in
     let same : lines body.text.now ≡ body_lines bs t = ap lines text in
-    let sofar : project_in r ≡ None = ap (λ s. sofar_of s acts ps) none in
+    let sofar : sofar_in r ≡ None = ap (λ s. sofar_of s acts ps) none in
     record {
       tables = record { activities = refl; activities_long = refl; pairs = refl; pairs_long = refl };
       ended = ap (flat_map with_lf) same ∙ body_ends bs t is ∙ sym text;
@@ -77,7 +77,7 @@ resources_same : (s : Option Head) (acts : List Activity) (ps : List Pair) → r
 resources_same None acts ps = refl
 resources_same (Some h) acts ps = refl
 
-grown : (r : Reader) (l : List ℕ) (q : Project) → judged (sizes r.activities.now r.pairs.now) (project_in r) (formed (resources_known r.sofar) l) ≡ Ok q → (activities_known r.sofar ≤ length q.activities) × (pairs_known r.sofar ≤ length q.pairs)
+grown : (r : Reader) (l : List ℕ) (q : Project) → judged (sizes r.activities.now r.pairs.now) (sofar_in r) (formed (resources_known r.sofar) l) ≡ Ok q → (activities_known r.sofar ≤ length q.activities) × (pairs_known r.sofar ≤ length q.pairs)
 grown r l q e = go r.sofar r.kept e
   where
     go : (s : Option Head) → Kept s r.activities.now r.pairs.now → judged (sizes r.activities.now r.pairs.now) (sofar_of s r.activities.now r.pairs.now) (formed (resources_known s) l) ≡ Ok q → (activities_known s ≤ length q.activities) × (pairs_known s ≤ length q.pairs)
@@ -127,14 +127,14 @@ module _ {bs : List ℕ} {t : Trailed} {first old : Reader} {left : Part} {count
   z = sizes first.activities.now first.pairs.now
 
   abbrev said : Result Project ℕ
-  said = judged (sizes old.activities.now old.pairs.now) (project_in old) (formed (resources_known old.sofar) l.text.now)
+  said = judged (sizes old.activities.now old.pairs.now) (sofar_in old) (formed (resources_known old.sofar) l.text.now)
 
   -- the line as the definition reads it
   steps : reading z bs ≡ closed t (length (body_lines bs t)) (on said (λ n. Err (refused n l.place)) (λ p. read_lines z (Some p) more.place (lines more.text.now)))
   steps =
       let one : left.place + suc (length l.text.now) ≡ more.place = omega (arith, cut.after) in
-      m.same ∙ ap (λ ls. closed t (length (body_lines bs t)) (read_lines z (project_in old) left.place ls)) (lines_cut left l more cut)
-      ∙ (λ i. closed t (length (body_lines bs t)) (on (judged (record { activities = sym m.tables.activities_long i; pairs = sym m.tables.pairs_long i }) (project_in old) (formed (resources_same old.sofar old.activities.now old.pairs.now i) l.text.now)) (λ k. Err (refused k (sym cut.here i))) (λ p. read_lines z (Some p) (one i) (lines more.text.now))))
+      m.same ∙ ap (λ ls. closed t (length (body_lines bs t)) (read_lines z (sofar_in old) left.place ls)) (lines_cut left l more cut)
+      ∙ (λ i. closed t (length (body_lines bs t)) (on (judged (record { activities = sym m.tables.activities_long i; pairs = sym m.tables.pairs_long i }) (sofar_in old) (formed (resources_same old.sofar old.activities.now old.pairs.now i) l.text.now)) (λ k. Err (refused k (sym cut.here i))) (λ p. read_lines z (Some p) (one i) (lines more.text.now))))
 
   -- a line that is refused
   pub refuse : (e : Refusal) (new : Reader) (acts : List Activity) (ps : List Pair) → TookLine said l.place old (Err e) new → Reads (reading z bs) first.activities.now first.pairs.now (Err e) acts ps
@@ -154,7 +154,7 @@ module _ {bs : List ℕ} {t : Trailed} {first old : Reader} {left : Part} {count
       go (Ok q) e k =
           let grow = grown old l.text.now q e in
           let n = ap length (lines_cut left l more cut) in
-          let here : project_in new ≡ Some q = ap (λ s. sofar_of s new.activities.now new.pairs.now) k.1 ∙ ap Some (held q new.activities.now new.pairs.now old.activities.now old.pairs.now k.2 k.3) in
+          let here : sofar_in new ≡ Some q = ap (λ s. sofar_of s new.activities.now new.pairs.now) k.1 ∙ ap Some (held q new.activities.now new.pairs.now old.activities.now old.pairs.now k.2 k.3) in
           record {
             tables = record {
               activities = tables.activities ∙ m.tables.activities;

@@ -8,8 +8,8 @@ use Rattle.book.specs.Steps.{sofar_of}
 use Rattle.book.specs.declared.reader.Reader.{Reader}
 
 -- the project so far
-abbrev pub project_in : Reader → Sofar
-project_in r = sofar_of r.sofar r.activities.now r.pairs.now
+abbrev pub sofar_in : Reader → Sofar
+sofar_in r = sofar_of r.sofar r.activities.now r.pairs.now
 
 -- the reader holds the project p; or the line was refused
 abbrev pub TookLine : Result Project ℕ → ℕ → Reader → Result (Unit {0}) Refusal → Reader → Type 0

@@ -168,7 +168,7 @@ fn add_pair(
 }
 
 impl<'t> Reader<'t> {
-    ghost use Rattle.book.specs.Took.{SameTables, TookLine, project_in};
+    ghost use Rattle.book.specs.Took.{SameTables, TookLine, sofar_in};
 
     // A reader that has read no line.
     fn new(activities: &'t mut [Activity], pairs: &'t mut [Pair]) -> Reader<'t>
@@ -186,7 +186,7 @@ impl<'t> Reader<'t> {
     // Takes one line into the tables, and answers the head with it.
     fn take(&mut self, line: &Line, place: usize) -> Result<Head, Refusal>
         requires { Ready line.now }
-        ensures took { Took (judged (sizes self.old.activities.now self.old.pairs.now) (project_in self.old) (Some (content_in line.now))) place self.old.activities.now self.old.pairs.now result self.new.activities.now self.new.pairs.now }
+        ensures took { Took (judged (sizes self.old.activities.now self.old.pairs.now) (sofar_in self.old) (Some (content_in line.now))) place self.old.activities.now self.old.pairs.now result self.new.activities.now self.new.pairs.now }
         ensures sofar { self.new.sofar ≡ self.old.sofar }
         ensures same { SameTables self.old self.new }
     {
@@ -203,7 +203,7 @@ impl<'t> Reader<'t> {
 
     // Reads a line of the book, and takes it into the tables.
     fn read(&mut self, line: Part<'_>) -> Result<(), Refusal>
-        ensures took { TookLine (judged (sizes self.old.activities.now self.old.pairs.now) (project_in self.old) (formed (resources_known self.old.sofar) line.entry.text.now)) line.entry.place self.old result self.new }
+        ensures took { TookLine (judged (sizes self.old.activities.now self.old.pairs.now) (sofar_in self.old) (formed (resources_known self.old.sofar) line.entry.text.now)) line.entry.place self.old result self.new }
         ensures same { SameTables self.old self.new }
     {
         let (letter, words) = Words::first(line);

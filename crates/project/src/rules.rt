@@ -2,7 +2,7 @@
 ghost use Rattle.std.specs.Prelude.{◌≡◌, ◌≤◌, nat_le, T, [], ◌∷◌, ◌++◌, length, Decides};
 ghost use Rattle.std.specs.List.{AllByRecursion, list_all, zip, enumerate_from};
 ghost use Rattle.project.specs.Held.{AreSound, are_sound, project_in};
-ghost use Rattle.project.specs.Project.{Once, Few, most_resources, Shaped, head_fits, capacities_fit, activities_fit, activity_fits, within, proper, follows, at_place, or_predecessors};
+ghost use Rattle.project.specs.Project.{Once, Few, most_resources, Shaped, head_fits, capacities_fit, activities_fit, activity_fits, within, Proper, proper, follows, at_place, or_predecessors};
 
 use crate::tables::{
     Activity, ActivityNumber, Head, Kind, MOST_ACTIVITIES, MOST_CAPACITY, MOST_DURATION,
@@ -81,7 +81,8 @@ fn activities_fit(capacities: &[u8; MOST_RESOURCES], activities: &[Activity]) ->
 
 // Whether a pair has a kind and names two of so many activities, the lower first.
 pub fn is_proper(pair: &Pair, activities: usize) -> bool
-    ensures { result ≡ proper activities pair.now }
+    ensures value { result ≡ proper activities pair.now }
+    ensures decides { Decides result (Proper activities pair.now) }
 {
     pair.kind != Kind::Blank
         && 1 <= pair.first

@@ -95,7 +95,7 @@ fn or_predecessors(activity: ActivityNumber, pairs: &[Pair]) -> usize
 {
     pairs
         .iter()
-        .filter(|pair| pair.kind == Kind::Or && pair.second == activity)
+        .filter(|pair| pair.second == activity && pair.kind == Kind::Or)
         .count()
 }
 

@@ -6,7 +6,6 @@ ghost use Rattle.project.specs.Project.{project_of, most_activities, most_pairs}
 ghost use Rattle.project.specs.Refusals.{answer, refused};
 ghost use Rattle.book.specs.Accepted.{WritesBook};
 ghost use Rattle.book.specs.Reading.{ReadsBack};
-ghost use Rattle.book.specs.Lines.{spaced};
 ghost use Rattle.book.specs.Parsed.{most_numbers};
 ghost use Rattle.book.specs.Saying.{Writable, line_text, saying};
 ghost use Rattle.book.specs.Written.{activity_line, capacities_line, pair_line, trailer_line, written, writing_of, bytes_after};

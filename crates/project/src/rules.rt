@@ -90,12 +90,16 @@ pub fn is_proper(pair: &Pair, activities: usize) -> bool
         && usize::from(pair.second) <= activities
 }
 
+// The firsts are told apart before the rest: they differ nearly always, and the kinds do not.
 fn is_among(pair: &Pair, pairs: &[Pair]) -> bool
     ensures { result ≡ among pair.now pairs.now }
 {
-    pairs.iter().any(|other| *other == *pair)
+    pairs
+        .iter()
+        .any(|other| other.first == pair.first && *other == *pair)
 }
 
+// The number of an activity is told apart before the kind, for the same reason.
 fn or_predecessors(activity: ActivityNumber, pairs: &[Pair]) -> usize
     ensures { result ≡ or_predecessors activity pairs.now }
 {

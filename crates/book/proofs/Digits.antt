@@ -1,52 +1,44 @@
--- What is read of a word as a number. Assumes nothing.
-use Rattle.std.proofs.Common.{◌≡◌, ℕ, ◌≤◌, true, not, ◌&&◌, ◌||◌, eqb, leb, List, [], ◌∷◌, length, get_or, Some, None, Ok, Err, Result, sym, refl, ap, ◌∙◌, subst, ⊎_elim, arith}
-use Rattle.std.specs.List.{list_all}
-use Rattle.std.specs.Result.{MatchResult, result_ok}
-use Rattle.std.specs.Borrow.{Bor}
-use Rattle.std.specs.Str.Parse.{ParsesUnsigned}
-use Rattle.std.specs.Char.{is_ascii_digit}
-use Rattle.std.specs.Str.{IsAscii, IsUtf8, all_ascii_digits}
-use Rattle.std.proofs.lemmas.Str.{IsUtf8-from_ascii}
-use Rattle.std.proofs.lemmas.Str.Ascii.{IsAscii-nil, IsAscii-cons}
-use Rattle.std.proofs.lemmas.Str.Parse.{tells_all_ascii_digits, parse_gives, digits_value_short}
-use Rattle.std.proofs.Math.Bool.{and-true}
-use Rattle.std.proofs.lemmas.Bool.{and_parts, or_left, or_right, cond-true, le-leb, leb-true, eq-eqb, ne_eqb, cases_eq}
+-- The digits of a number, one by one. Assumes nothing.
+use Rattle.std.proofs.Common.{◌≡◌, ℕ, zero, suc, ◌+◌, ◌-◌, ◌*◌, ◌^◌, ◌<◌, ◌≤◌, true, false, not, ◌&&◌, ◌||◌, eqb, leb, List, [], ◌∷◌, length, get_or, take, Some, None, sym, refl, ap, ◌∙◌, ⊎_elim, pow-suc, add-one, arith}
+use Rattle.std.specs.Str.Parse.{digits_value}
+use Rattle.std.specs.Int.{IsInRange}
+use Rattle.std.specs.Char.{is_ascii_digit, digit_value}
+use Rattle.std.specs.Str.{all_ascii_digits}
+use Rattle.std.proofs.lemmas.Int.Digits.{digits_value_more}
+use Rattle.std.proofs.lemmas.Bool.{and_right, and_from, and_parts, or_left, or_right, cond-true, cond-false, le-leb, eq-eqb, ne_eqb, cases_eq}
+use Rattle.std.proofs.lemmas.Str.{digit_value_digit}
 use Rattle.book.specs.Lines.{most_digits, is_numeral, numeral}
-use Rattle.book.proofs.Spelling.{own}
 
-digits_same : (ds : List ℕ) → all_ascii_digits ds ≡ list_all is_ascii_digit ds
-digits_same [] = refl
-digits_same (d ∷ ds) = ap (λ b. is_ascii_digit d && b) (digits_same ds)
+pub digits_more : (ds : List ℕ) (i : ℕ) → i < length ds → all_ascii_digits (take i ds) ≡ true → is_ascii_digit (get_or ds i 0) ≡ true → all_ascii_digits (take (i + 1) ds) ≡ true
+digits_more [] i lt a d = absurd (omega arith)
+digits_more (c ∷ cs) zero lt a d = and_from _ _ d refl
+digits_more (c ∷ cs) (suc i) lt a d =
+    let p = and_parts (is_ascii_digit c) (all_ascii_digits (take i cs)) a in
+    let n : suc i + 1 ≡ suc (i + 1) = omega arith in
+    ap (λ k. all_ascii_digits (take k (c ∷ cs))) n ∙ and_from _ _ p.0 (digits_more cs i (omega arith) p.1 d)
 
-digits_ascii : (ds : List ℕ) → all_ascii_digits ds ≡ true → IsAscii ds
-digits_ascii [] h = IsAscii-nil
-digits_ascii (d ∷ ds) h =
-    let p = tells_all_ascii_digits.parts d ds h in
-    IsAscii-cons d ds (omega (arith, p.0)) (digits_ascii ds p.1)
+not_digits : (ds : List ℕ) (i : ℕ) → i < length ds → is_ascii_digit (get_or ds i 0) ≡ false → all_ascii_digits ds ≡ false
+not_digits [] i lt d = absurd (omega arith)
+not_digits (c ∷ cs) zero lt d = ap (λ b. b && all_ascii_digits cs) d
+not_digits (c ∷ cs) (suc i) lt d = and_right _ _ (not_digits cs i (omega arith) d)
 
--- a word of one to five bytes, with no needless zero, is a numeral where all its bytes are digits
-pub all_digits : (ds : List ℕ) → 1 ≤ length ds → length ds ≤ most_digits → (get_or ds 0 0 ≡ 48 → length ds ≡ 1) → list_all is_ascii_digit ds ≡ is_numeral ds
-all_digits ds some few bare =
-    let zero : (not (eqb (get_or ds 0 0) 48) || eqb (length ds) 1) ≡ true = ⊎_elim (λ e. or_right _ _ (eq-eqb _ _ (bare e))) (λ ne. or_left _ _ (ap not (ne_eqb _ _ ne))) (cases_eq (get_or ds 0 0) 48) in
-    sym (rw (le-leb 1 _ some, le-leb _ most_digits few, digits_same ds, zero) (and-true (list_all is_ascii_digit ds)))
+-- a word with another byte among its digits is no number
+pub no_numeral : (ds : List ℕ) (i : ℕ) → i < length ds → is_ascii_digit (get_or ds i 0) ≡ false → None ≡ numeral ds
+no_numeral ds i lt d =
+    sym (cond-false (is_numeral ds) _ _ (and_right (leb 1 (length ds)) _ (and_right (leb (length ds) most_digits) _ (ap (λ b. b && (not (eqb (get_or ds 0 0) 48) || eqb (length ds) 1)) (not_digits ds i lt d)))))
 
-module _ (ds : List ℕ) (is : true ≡ is_numeral ds) where
-  few : leb (length ds) most_digits ≡ true
-  few = (and_parts _ _ (and_parts (leb 1 (length ds)) _ (sym is)).1).0
+pub some_numeral : (ds : List ℕ) (v : ℕ) → 1 ≤ length ds → length ds ≤ most_digits → (get_or ds 0 0 ≡ 48 → length ds ≡ 1) → all_ascii_digits ds ≡ true → v ≡ digits_value 10 ds → Some v ≡ numeral ds
+some_numeral ds v some few bare all is =
+    ap Some is ∙ sym (cond-true (is_numeral ds) _ _ (and_from _ _ (le-leb _ _ some) (and_from _ _ (le-leb _ _ few) (and_from _ _ all (⊎_elim (λ e. or_right _ _ (eq-eqb _ _ (bare e))) (λ ne. or_left _ _ (ap not (ne_eqb _ _ ne))) (cases_eq (get_or ds 0 0) 48))))))
 
-  digits : all_ascii_digits ds ≡ true
-  digits =
-      (and_parts (all_ascii_digits ds) _ (and_parts (leb (length ds) most_digits) _ (and_parts (leb 1 (length ds)) _ (sym is)).1).1).0
+-- one digit more
+pub value_step : (ds : List ℕ) (i v : ℕ) → i < length ds → IsInRange 48 57 (get_or ds i 0) → v ≡ digits_value 10 (take i ds) → v * 10 + (get_or ds i 0 - 48) ≡ digits_value 10 (take (i + 1) ds)
+value_step ds i v lt d is =
+    let e = digit_value_digit (get_or ds i 0) d in
+    let f : get_or ds i 0 - 48 ≡ digit_value (get_or ds i 0) = omega arith in
+    ap (λ n. n * 10 + (get_or ds i 0 - 48)) is ∙ ap (λ n. digits_value 10 (take i ds) * 10 + n) f ∙ sym (digits_value_more 10 ds i lt)
 
-  pub is_text : {E : Type 0} (Q : E → Type 0) (r : Result (Bor (List ℕ)) E) → MatchResult r (λ s. (s.now ≡ ds) × IsUtf8 ds) (λ e. ¬ (IsUtf8 ds) × Q e) → None ≡ result_ok r → ⊥
-  is_text Q (Ok s) m e = cc
-  is_text Q (Err x) m e = m.0 (IsUtf8-from_ascii ds (digits_ascii ds digits))
-
-  pub parsed : {E : Type 0} (Q : E → Type 0) (r : Result (Bor (List ℕ)) E) (s : Bor (List ℕ)) → MatchResult r (λ s. (s.now ≡ ds) × IsUtf8 ds) (λ e. ¬ (IsUtf8 ds) × Q e) → Some s ≡ result_ok r → {F : Type 0} (q : Result ℕ F) → ParsesUnsigned 32 10 s.now q → result_ok q ≡ numeral ds
-  parsed Q r s m e q h =
-      let some = leb-true 1 _ (and_parts (leb 1 (length ds)) _ (sym is)).0 in
-      ap result_ok (parse_gives own 32 ds q (subst (λ l. ParsesUnsigned 32 10 l q) (text Q r m e) h) digits some (omega (arith, digits_value_short own ds most_digits digits (leb-true _ _ few)))) ∙ sym (cond-true (is_numeral ds) _ _ (sym is))
-    where
-      text : {E : Type 0} (Q : E → Type 0) (r : Result (Bor (List ℕ)) E) → MatchResult r (λ s. (s.now ≡ ds) × IsUtf8 ds) (λ e. ¬ (IsUtf8 ds) × Q e) → Some s ≡ result_ok r → s.now ≡ ds
-      text Q (Ok t) m e = let same : s ≡ t = cc in ap (λ x. x.now) same ∙ m.0
-      text Q (Err x) m e = cc
+pub value_bound : (v i d : ℕ) → v < 10 ^ i → d < 10 → v * 10 + d < 10 ^ (i + 1)
+value_bound v i d lt small =
+    let e : 10 ^ (i + 1) ≡ 10 ^ i * 10 = ap (λ n. 10 ^ n) (add-one i) ∙ pow-suc 10 i in
+    omega arith

@@ -6,6 +6,7 @@ pub mod Digits
 pub mod Ending
 pub mod Faulting
 pub mod Frames
+pub mod LineBytes
 pub mod Looping
 pub mod Numbering
 pub mod Publishing

@@ -1,6 +1,6 @@
 // The words of a line: each is a part of the book, with its place.
 ghost use Rattle.std.specs.Prelude.{◌≡◌, ◌+◌, ◌≤◌, length};
-ghost use Rattle.book.specs.Lines.{is_numeral, numeral, most_bytes};
+ghost use Rattle.book.specs.Lines.{numeral, most_bytes};
 
 use crate::lines::LineKind;
 
@@ -68,27 +68,25 @@ impl<'a> Part<'a> {
     }
 }
 
-// Whether a word is one to five digits, with no needless zero.
-fn is_numeral(word: &[u8]) -> bool
-    ensures { result ≡ is_numeral word.now }
-{
-    if let [] | [b'0', _, ..] = word {
-        return false;
-    }
-    if word.len() > MOST_DIGITS {
-        return false;
-    }
-    word.iter().all(|b| b.is_ascii_digit())
-}
-
-// The number that a word writes, if it is a numeral: `parse` alone would read a sign and needless zeros.
+// The number that a word writes, if it is one to five digits with no needless zero. Digit by digit: `parse` takes a text, and a book was read in nearly
+// twice the time where each word was made one.
 fn numeral(word: &[u8]) -> Option<u32>
     ensures { result ≡ numeral word.now }
 {
-    if !is_numeral(word) {
+    if let [] | [b'0', _, ..] = word {
         return None;
     }
-    str::from_utf8(word).ok()?.parse().ok()
+    if word.len() > MOST_DIGITS {
+        return None;
+    }
+    let mut value = 0;
+    for digit in word {
+        if !digit.is_ascii_digit() {
+            return None;
+        }
+        value = value * 10 + u32::from(*digit - b'0');
+    }
+    Some(value)
 }
 
 impl Word<'_> {

@@ -1,31 +1,20 @@
 // Writing the text of a project into lent bytes. The length is counted first, so that a refusal writes nothing.
-ghost use Rattle.std.specs.Prelude.{◌≡◌, ◌+◌, ◌^◌, ◌<◌, ◌≤◌, ◌↔◌, [], ◌++◌, length, take};
+ghost use Rattle.std.specs.Prelude.{◌≡◌, ◌+◌, ◌^◌, ◌<◌, ◌*◌, ◌≤◌, ◌↔◌, [], ◌++◌, length, take};
 ghost use Rattle.arrayvec.specs.ArrayVec.{array_vec_len};
 ghost use Rattle.project.specs.Held.{AreSound, project_in};
 ghost use Rattle.project.specs.Project.{project_of, most_activities, most_pairs};
 ghost use Rattle.project.specs.Refusals.{answer, refused};
 ghost use Rattle.book.specs.Accepted.{WritesBook};
 ghost use Rattle.book.specs.Reading.{ReadsBack};
-ghost use Rattle.book.specs.Lines.{spaced};
 ghost use Rattle.book.specs.Parsed.{most_numbers};
 ghost use Rattle.book.specs.Saying.{Writable, line_text, saying};
 ghost use Rattle.book.specs.Written.{activity_line, capacities_line, pair_line, trailer_line, written, writing_of, bytes_after};
 
-use crate::lines::{Line, LineKind, MOST_NUMBERS, Numbers};
+use crate::lines::{Line, LineKind, Numbers};
 use crate::words::{LF, SPACE};
-use arrayvec::ArrayVec;
-use itoa::Buffer;
-use numerals::Page;
+use numerals::{Page, number_length};
 use project::refusal::Refusal;
 use project::tables::{Activity, Head, Kind, Pair, Tables};
-
-// The most bytes of a number and the space before it.
-const MOST_SPACED: usize = 11;
-
-// The most bytes of a line: its letter, its numbers and LF.
-const MOST_LINE_BYTES: usize = 2 + MOST_NUMBERS * MOST_SPACED;
-
-type LineText = ArrayVec<u8, MOST_LINE_BYTES>;
 
 // The letter that tells a kind of line. No line is of a blank pair, which has none: 0 stands for it, so that the conversion cannot fail.
 impl From<LineKind> for u8 {
@@ -47,29 +36,31 @@ impl From<LineKind> for u8 {
     }
 }
 
-// Appends a space and the number.
-fn push_number(text: &mut LineText, number: u32)
-    requires { array_vec_len text.old + MOST_SPACED ≤ MOST_LINE_BYTES }
-    ensures says { text.new.items ≡ text.old.items ++ spaced number }
-    ensures bound { array_vec_len text.new ≤ array_vec_len text.old + MOST_SPACED }
-{
-    text.push(SPACE);
-    text.try_extend_from_slice(Buffer::new().format(number).as_bytes())
-        .unwrap();
-}
-
 impl Line {
-    // The bytes of the line. They are made before they are written, so that counting them and writing them is one thing.
-    fn text(&self) -> LineText
-        ensures { result.items ≡ line_text self.now }
+    ghost use Rattle.numerals.specs.Pages.{Writes};
+
+    // How many bytes the line takes: its letter, its numbers with a space before each, and LF.
+    fn length(&self) -> usize
+        ensures value { result ≡ length (line_text self.now) }
+        ensures bound { result ≤ 2 + 11 * most_numbers }
     {
-        let mut text = LineText::new();
-        text.push(u8::from(self.kind));
+        let mut length = 2;
         for number in self.numbers.as_slice() {
-            push_number(&mut text, *number);
+            length += 1 + number_length(*number);
         }
-        text.push(LF);
-        text
+        length
+    }
+
+    fn write(&self, page: &mut Page<'_>)
+        requires { page.old.at + length (line_text self.now) ≤ length page.old.bytes.now }
+        ensures { Writes (line_text self.now) page.old page.new }
+    {
+        page.write_byte(u8::from(self.kind));
+        for number in self.numbers.as_slice() {
+            page.write_byte(SPACE);
+            page.write_number(*number);
+        }
+        page.write_byte(LF);
     }
 }
 
@@ -204,7 +195,7 @@ impl<'t> Text<'t> {
     fn length(self) -> usize
         ensures { result ≡ length (text_of self.entry) }
     {
-        self.lines().map(|line| line.text().len()).sum()
+        self.lines().map(|line| line.length()).sum()
     }
 
     fn write(self, out: &mut [u8]) -> usize
@@ -213,7 +204,7 @@ impl<'t> Text<'t> {
     {
         let mut page = Page::new(out);
         for line in self.lines() {
-            page.write_bytes(line.text().as_slice());
+            line.write(&mut page);
         }
         page.at
     }

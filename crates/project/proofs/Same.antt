@@ -1,5 +1,5 @@
 -- The tests of one pair: which pairs are the same, and which are OR pairs into an activity. Assumes nothing.
-use Rattle.std.proofs.Common.{◌≡◌, true, Decides, refl, ap, subst}
+use Rattle.std.proofs.Common.{◌≡◌, Bool, true, false, ◌&&◌, eqb, Decides, refl, ap, subst}
 use Rattle.std.proofs.lemmas.Bool.{false≢true, and_parts, and_from, eqb-true, eq-eqb}
 use Rattle.project.specs.declared.tables.Kind.{Kind}
 use Rattle.project.specs.declared.tables.Kind.TheVariants.{Blank, And, Or, Bi}
@@ -46,3 +46,12 @@ decides_same q r = (
   λ e. let h = fields_same q r e in λ i. record { kind = h.0 i; first = h.1 i; second = h.2 i },
   λ e. same_fields q r (ap (λ p. p.kind) e) (ap (λ p. p.first) e) (ap (λ p. p.second) e),
 )
+
+-- that the firsts are the same is asked twice
+pub first_again : (q r : Pair) → (eqb q.first r.first && same_pair q r) ≡ same_pair q r
+first_again q r = bool_elim_first (eqb q.first r.first) (same_kind q.kind r.kind) (eqb q.second r.second)
+  where
+    bool_elim_first : (f k s : Bool) → (f && (k && (f && s))) ≡ (k && (f && s))
+    bool_elim_first true k s = refl
+    bool_elim_first false true s = refl
+    bool_elim_first false false s = refl

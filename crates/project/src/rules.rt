@@ -2,7 +2,7 @@
 ghost use Rattle.std.specs.Prelude.{◌≡◌, ◌≤◌, nat_le, T, [], ◌∷◌, ◌++◌, length, Decides};
 ghost use Rattle.std.specs.List.{AllByRecursion, list_all, zip, enumerate_from};
 ghost use Rattle.project.specs.Held.{AreSound, are_sound, project_in};
-ghost use Rattle.project.specs.Project.{Once, Few, most_resources, Shaped, head_fits, capacities_fit, activities_fit, activity_fits, within, Proper, proper, follows, at_place, or_predecessors};
+ghost use Rattle.project.specs.Project.{Once, Few, most_resources, Shaped, head_fits, capacities_fit, activities_fit, activity_fits, within, Proper, among, proper, follows, at_place, or_predecessors};
 
 use crate::tables::{
     Activity, ActivityNumber, Head, Kind, MOST_ACTIVITIES, MOST_CAPACITY, MOST_DURATION,
@@ -90,12 +90,22 @@ pub fn is_proper(pair: &Pair, activities: usize) -> bool
         && usize::from(pair.second) <= activities
 }
 
+// The firsts are told apart before the rest: they differ nearly always, and the kinds do not.
+fn is_among(pair: &Pair, pairs: &[Pair]) -> bool
+    ensures { result ≡ among pair.now pairs.now }
+{
+    pairs
+        .iter()
+        .any(|other| other.first == pair.first && *other == *pair)
+}
+
+// The number of an activity is told apart before the kind, for the same reason.
 fn or_predecessors(activity: ActivityNumber, pairs: &[Pair]) -> usize
     ensures { result ≡ or_predecessors activity pairs.now }
 {
     pairs
         .iter()
-        .filter(|pair| pair.kind == Kind::Or && pair.second == activity)
+        .filter(|pair| pair.second == activity && pair.kind == Kind::Or)
         .count()
 }
 
@@ -104,7 +114,7 @@ pub fn can_follow(pair: &Pair, before: &[Pair]) -> bool
     ensures value { result ≡ follows before.now pair.now }
     ensures decides { Once before.now → Few before.now → Decides result (Once (before.now ++ pair.now ∷ []) × Few (before.now ++ pair.now ∷ [])) }
 {
-    !before.contains(pair)
+    !is_among(pair, before)
         && (pair.kind != Kind::Or || or_predecessors(pair.second, before) < MOST_OR_PREDECESSORS)
 }
 

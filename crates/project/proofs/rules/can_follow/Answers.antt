@@ -9,5 +9,5 @@ returns-then-ne-clause-decides c = λ once few. Decides-at _ _ (search rules) (d
 pub returns-else-ne-clause-decides : goal.returns-else-ne-clause-decides
 returns-else-ne-clause-decides c = λ once few. Decides-at _ _ (search rules) (decides_follows c.args.before.now c.args.pair.now once few)
 
-pub returns-else-not-contains-clause-decides : goal.returns-else-not-contains-clause-decides
-returns-else-not-contains-clause-decides c = λ once few. Decides-at _ _ (search rules) (decides_follows c.args.before.now c.args.pair.now once few)
+pub returns-else-not-is_among-clause-decides : goal.returns-else-not-is_among-clause-decides
+returns-else-not-is_among-clause-decides c = λ once few. Decides-at _ _ (search rules) (decides_follows c.args.before.now c.args.pair.now once few)

@@ -137,6 +137,11 @@ taking_refused cs m x = (
       ∙ ap₂ first ((taking_accepted t.before m).1 t.taken) (ap₂ first t.refused refl),
 )
 
+-- a longer list stops where its beginning does
+pub stops_append : (xs ys : List (List ℤ)) (m : Meaning) (x : Refused) → Stops xs m x → Stops (xs ++ ys) m x
+stops_append xs ys m x t =
+    (taking_refused (xs ++ ys) m x).0 (taking_append xs ys m.cost m.count m.room ∙ ap₂ first ((taking_refused xs m x).1 t) refl)
+
 pub stops_after : (xs ys : List (List ℤ)) (m n : Meaning) (x : Refused) → AddedAll xs m n → Stops ys n x → Stops (xs ++ ys) m x
 stops_after xs ys m n x p t = (taking_refused (xs ++ ys) m x).0 (taking_after xs ys m n p ∙ (taking_refused ys n x).1 t)
 

@@ -271,20 +271,25 @@ module _ {A Z : Type 0} (s : Script A) (legible : Legible s) (v : Vec A Z) (lent
   refills : (w : List A) → length w ≡ length lent → vec_items (with_items v w) ≡ w
   refills w same = let lens = v.ok.0 in let long = ap length value in with_items_is v w (omega arith)
 
-  pub adds_in : (c : List ℤ) (n : ℕ) (p : Option ℕ) → n ≡ min (length (s.spell c)) (2 ^ 64 - 1) → p ≡ price c n → Ends {A = Unit {0}} (Ok tt) (may_charge p l) (l' ≡ charged p l) (l' ≡ l) → part ≡ s.spell c
-      → Leaves s (adding c (stored s (vec_items v) l)) (Added c) (Appended c) (vec_items v) (vec_items (with_items v (put_mid (size - room) ((size - room + n) - (size - room)) lent part))) l l'
-  adds_in c n p long priced h is =
+  pub adds_in : (c : List ℤ) (p : Option ℕ) (now : ℕ) → p ≡ price c (min (length (s.spell c)) (2 ^ 64 - 1)) → now ≡ l'.tally.free → Ends {A = Unit {0}} (Ok tt) (may_charge p l) (l' ≡ charged p l) (l' ≡ l)
+      → (length (take ((size - now) - (size - room)) (drop (size - room) lent)) ≡ length (s.spell c) → part ≡ s.spell c)
+      → Leaves s (adding c (stored s (vec_items v) l)) (Added c) (Appended c) (vec_items v) (vec_items (with_items v (put_mid (size - room) ((size - now) - (size - room)) lent part))) l l'
+  adds_in c p now priced after h filled =
       let lens = v.ok in
       let small = v.small in
       let grew = sd.grew in
       let k = length (s.spell c) in
-      let paid = ledgers.charges c n l (h.answers ∙ ap (λ q. may_charge q l) priced) in
+      let n = (size - now) - (size - room) in
+      let paid = ledgers.charges c (min k (2 ^ 64 - 1)) l (h.answers ∙ ap (λ q. may_charge q l) priced) in
       let left = paid.room in
+      let whole_length : min k (2 ^ 64 - 1) ≡ k = omega arith in
+      let spent = ap (λ (x : Ledger). x.tally.free) (h.does ∙ ap (λ q. charged q l) priced ∙ paid.ledger) in
       let fits : n ≡ k = omega arith in
       let same_length = ap length value in
-      let w = put_mid-paste (size - room) ((size - room + n) - (size - room)) lent part (s.spell c) k is (omega arith) refl in
+      let is = filled (length-take-le n (drop (size - room) lent) (simp length-drop (omega arith)) ∙ fits) in
+      let w = put_mid-paste (size - room) n lent part (s.spell c) k is (omega arith) refl in
       let same = ap length w ∙ length-paste lent (size - room) (s.spell c) k (omega arith) (omega arith) in
-      adds s legible (vec_items v) l sd c p (size - room) _ l' (priced ∙ ap (price c) fits) h (omega arith) (refills _ same ∙ w ∙ ap (λ d. paste d (size - room) (s.spell c) k) value)
+      adds s legible (vec_items v) l sd c p (size - room) _ l' (priced ∙ ap (price c) whole_length) h (omega arith) (refills _ same ∙ w ∙ ap (λ d. paste d (size - room) (s.spell c) k) value)
 
   pub strikes_in : (now : ℕ) → now ≡ l'.tally.free → Ends {A = Unit {0}} (Ok tt) (may_close l) (l' ≡ restored l) (l' ≡ l) → part ≡ replicate (length (take ((size - room) - (size - now)) (drop (size - now) lent))) s.blank
       → Leaves s (closing (stored s (vec_items v) l)) Struck Reverted (vec_items v) (vec_items (with_items v (put_mid (size - now) ((size - room) - (size - now)) lent part))) l l'

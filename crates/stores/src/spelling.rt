@@ -1,6 +1,9 @@
 // How clauses are spelled in the elements of a memory.
 ghost use Rattle.std.specs.Prelude.{◌≡◌, ◌-◌, ◌^◌, min, length, replicate};
+ghost use Rattle.sinks.specs.Ledgers.{price};
 ghost use Rattle.stores.specs.Scripts.{Legible, Script};
+
+use sinks::clause::price;
 
 pub trait Spelling {
     // What a memory is made of.
@@ -12,6 +15,14 @@ pub trait Spelling {
     // room for.
     fn length(clause: &[i32]) -> usize
         ensures { result ≡ min (length (script.spell clause.now)) (2 ^ 64 - 1) };
+
+    // What a clause costs, which is its length; what is no clause has no cost. Where telling the length is a pass over the numbers, one that tests them as
+    // it goes saves another, and ends at the first number that is no literal.
+    fn price(clause: &[i32]) -> Option<usize>
+        ensures { result ≡ price clause.now (min (length (script.spell clause.now)) (2 ^ 64 - 1)) }
+    {
+        price(clause, Self::length(clause))
+    }
 
     // Writes a clause into memory that it fills. Of memory that is longer or shorter nothing is said.
     fn write(memory: &mut [Self::Element], clause: &[i32])

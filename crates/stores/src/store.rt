@@ -7,7 +7,6 @@ ghost use Rattle.stores.specs.Memories.{Agrees};
 
 use crate::spelling::Spelling;
 use project::refusal::Refusal;
-use sinks::clause::price;
 use sinks::ledger::Ledger;
 use sinks::sink::Sink;
 use std::marker::PhantomData;
@@ -82,10 +81,11 @@ impl<S: Spelling> Sink for Store<S> {
     }
 
     fn add(&mut self, clause: &[i32]) -> Result<(), Refusal> {
-        let start = self.memory.len() - self.ledger.room();
-        let length = S::length(clause);
-        self.ledger.charge(price(clause, length))?;
-        S::write(&mut self.memory[start..start + length], clause);
+        let size = self.memory.len();
+        let start = size - self.ledger.room();
+        self.ledger.charge(S::price(clause))?;
+        let end = size - self.ledger.room();
+        S::write(&mut self.memory[start..end], clause);
         Ok(())
     }
 

@@ -6,6 +6,7 @@ ghost use Rattle.stores.specs.TextLegible.{text_legible};
 use crate::spelling::Spelling;
 use crate::store::{Store, StoreBatch};
 use numerals::{Page, number_length};
+use sinks::clause::is_literal;
 
 // In bytes a clause is a line, and blank bytes are 0.
 #[derive(Drop)]
@@ -28,6 +29,20 @@ impl Spelling for Text {
             .iter()
             .map(|literal| literal_length(*literal))
             .fold(4, usize::saturating_add)
+    }
+
+    fn price(clause: &[i32]) -> Option<usize> {
+        if clause.is_empty() {
+            return None;
+        }
+        // The sum is that of `length`, as far as there are literals.
+        clause.iter().try_fold(4, |length: usize, literal| {
+            if is_literal(*literal) {
+                Some(length.saturating_add(literal_length(*literal)))
+            } else {
+                None
+            }
+        })
     }
 
     fn write(bytes: &mut [u8], clause: &[i32]) {

@@ -43,7 +43,10 @@ struct Reader<'t> {
 fn at_most(limit: u8, number: u32) -> Option<u8>
     ensures { result ≡ if_at_most limit number }
 {
-    u8::try_from(number).ok().filter(|byte| *byte <= limit)
+    if number > u32::from(limit) {
+        return None;
+    }
+    u8::try_from(number).ok()
 }
 
 // The numbers with zeros after them, if each is at most the limit in its place.

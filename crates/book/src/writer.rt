@@ -39,7 +39,8 @@ impl From<LineKind> for u8 {
 impl Line {
     ghost use Rattle.numerals.specs.Pages.{Writes};
 
-    // How many bytes the line takes: its letter, its numbers with a space before each, and LF.
+    // How many bytes the line takes: its letter, its numbers with a space before each, and LF. A loop and no `sum`: tried, and the proof that there
+    // is room for two more beside the sum did not close.
     fn length(&self) -> usize
         ensures value { result ≡ length (line_text self.now) }
         ensures bound { result ≤ 2 + 11 * most_numbers }
@@ -51,6 +52,7 @@ impl Line {
         length
     }
 
+    // Number by number onto the page, as the text of a clause is written: a line that was made first and then copied took up to twice the time.
     fn write(&self, page: &mut Page<'_>)
         requires { page.old.at + length (line_text self.now) ≤ length page.old.bytes.now }
         ensures { Writes (line_text self.now) page.old page.new }

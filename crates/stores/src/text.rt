@@ -45,6 +45,7 @@ impl Spelling for Text {
         })
     }
 
+    // Number by number, as a line of a book is written, but for what stands before and after the numbers.
     fn write(bytes: &mut [u8], clause: &[i32]) {
         let mut page = Page::new(bytes);
         page.write_byte(b'h');

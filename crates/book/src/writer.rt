@@ -52,7 +52,7 @@ impl Line {
         length
     }
 
-    // Number by number onto the page, as the text of a clause is written: a line that was made first and then copied took up to twice the time.
+    // Number by number onto the page, as the text of a clause is written: to make the line first and then copy it took longer.
     fn write(&self, page: &mut Page<'_>)
         requires { page.old.at + length (line_text self.now) ≤ length page.old.bytes.now }
         ensures { Writes (line_text self.now) page.old page.new }
